@@ -1,0 +1,4 @@
+pub mod Members
+pub mod Collected
+pub mod Rows
+pub mod Bits

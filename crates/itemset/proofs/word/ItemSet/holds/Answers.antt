@@ -1,0 +1,10 @@
+use mathlib.Core.Path.{sym}
+use native.Mathlib.Omega.{arith}
+use Rattle.itemset.proofs.Bits.{has-code, has-beyond}
+use Rattle.itemset.proofs.word.ItemSet.holds.Needs as need
+
+pub returns-then-item-ge32 : need.returns-then-item-ge32
+returns-then-item-ge32 c = sym (has-beyond 32 (c .args .item) (c .args .self) (omega arith) (omega arith))
+
+pub returns : need.returns
+returns c = has-code (c .args .item) (c .args .self)
