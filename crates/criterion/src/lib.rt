@@ -3,11 +3,16 @@ ghost use Rattle.criterion.specs.Examples.{Computed};
 ghost use Rattle.criterion.specs.Laws.{Branches, Counted, Found, Hitting, Needed, Shrunk, Unique};
 
 mod criterion;
+mod held;
+mod memory;
 mod remembered;
 mod ungrouped;
 
 pub use criterion::Criterion;
 pub use criterion::GroupedCriterion;
+pub use held::Memory;
+pub use memory::MemoryCriterion;
+pub use memory::MemoryGroups;
 pub use remembered::Remembered;
 pub use ungrouped::Ungrouped;
 pub use ungrouped::UngroupedCriterion;
@@ -23,5 +28,4 @@ pub fn core_laws()
     ensures yes_set_that_loses_nothing_is_a_core { λ _. ⌜ Shrunk ⌝ }
     ensures other_cores_miss_an_item { λ _. ⌜ Branches ⌝ }
     ensures examples_compute { λ _. ⌜ Computed ⌝ }
-{
-}
+{}
