@@ -1,0 +1,4 @@
+pub mod Reading
+pub mod Tells
+pub mod Finds
+pub mod Writing
