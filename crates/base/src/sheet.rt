@@ -1,13 +1,14 @@
 // Reads the words of a sheet from the front.
-ghost use mathlib.Core.Bool.{Bool};
+ghost use mathlib.Core.Bool.{Bool, true};
 ghost use mathlib.Core.Path.{_≡_};
 ghost use Prim.Native.Nat.{ℕ, _≤_};
 ghost use lib.Dec.{leb};
 ghost use lib.ListN.{length};
 ghost use Rattle.std.specs.Results.{Cases as ByOk};
+ghost use Rattle.std.specs.Vec.{made};
 ghost use Rattle.base.specs.Readers.{text, told};
 ghost use Rattle.base.specs.Refusals.{index as indexOf, number as numberOf, outcome};
-ghost use Rattle.base.specs.Sheets.{got, many, passing, whole};
+ghost use Rattle.base.specs.Sheets.{all-of, got, many, passing, whole};
 use crate::reader::Reader;
 use crate::refusal::Refusal;
 
@@ -52,6 +53,7 @@ impl<'a> Reader<'a> {
     // The next word.
     pub fn word<R: WordRule>(&mut self, rule: &R) -> Result<u64, Refusal>
         ensures same_words { λ _. ⌜ text (now (self .exit)) ≡ text (now (self .entry)) ⌝ }
+        ensures keeps_the_rule { λ r. ⌜ made r (λ w. R·WordRule .test (now (rule .entry)) w ≡ true) ⌝ }
         ensures stays_before_a_refused_word { λ r. ⌜ ByOk r (λ _. Unit {0}) (λ f. now (self .exit) .at ≡ indexOf f) ⌝ }
         ensures reads_a_word { λ r. ⌜ told (λ w. w) r (now (self .exit) .at) ≡ passing (R·WordRule .test (now (rule .entry))) (R·WordRule .code) (text (now (self .entry))) (now (self .entry) .at) ⌝ }
     {
@@ -70,6 +72,7 @@ impl<'a> Reader<'a> {
     // The next n words, all under one rule.
     pub fn words<R: WordRule>(&mut self, rule: &R, n: usize) -> Result<&'a [u64], Refusal>
         ensures same_words { λ _. ⌜ text (now (self .exit)) ≡ text (now (self .entry)) ⌝ }
+        ensures keeps_the_rule { λ r. ⌜ made r (λ s. (all-of (R·WordRule .test (now (rule .entry))) (now s) ≡ true) × (length (now s) ≡ n)) ⌝ }
         ensures stays_before_a_refused_word { λ r. ⌜ ByOk r (λ _. Unit {0}) (λ f. now (self .exit) .at ≡ indexOf f) ⌝ }
         ensures reads_so_many { λ r. ⌜ told (λ s. now s) r (now (self .exit) .at) ≡ many (passing (R·WordRule .test (now (rule .entry))) (R·WordRule .code) (text (now (self .entry)))) n (now (self .entry) .at) ⌝ }
     {

@@ -10,6 +10,7 @@ use lib.ListN.{length}
 use Rattle.std.specs.shelf.Lists.{Has}
 use Rattle.itemset.specs.Sets.{_∈_, _⊆_, less, full, has, within, collect, members, Lowest}
 use Rattle.itemset.specs.Lists.{Rising}
+use Rattle.itemset.specs.Counting.{some, every}
 
 -- sets with the same members are one number
 abbrev pub Same-members : Type 0
@@ -66,3 +67,10 @@ Rising-le = (xs ys : List ℕ) → Rising xs → Rising ys → ((x : ℕ) → Ha
 
 abbrev pub Rising-same : Type 0
 Rising-same = (xs ys : List ℕ) → Rising xs → Rising ys → ((x : ℕ) → Has xs x ↔ Has ys x) → xs ≡ ys
+
+-- the searches below n find what there is
+abbrev pub Some-right : Type 0
+Some-right = (n : ℕ) (t : ℕ → Bool) → (some n t ≡ true) ↔ ((k : ℕ) × (k < n) × (t k ≡ true))
+
+abbrev pub Every-right : Type 0
+Every-right = (n : ℕ) (t : ℕ → Bool) → (every n t ≡ true) ↔ ((k : ℕ) → k < n → t k ≡ true)

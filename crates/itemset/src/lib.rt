@@ -1,5 +1,5 @@
 // Sets of small numbers in the bits of a word: what holds of them, and the few operations that the code above needs.
-ghost use Rattle.itemset.specs.Laws.{And-not, Below, In-and, In-collect, In-full, In-less, In-low, In-one, In-or, Lowest-is, Ones-are, Rising-le, Rising-same, Same-members, Subset-le, Tests-right};
+ghost use Rattle.itemset.specs.Laws.{And-not, Below, Every-right, In-and, In-collect, In-full, In-less, In-low, In-one, In-or, Lowest-is, Ones-are, Rising-le, Rising-same, Same-members, Some-right, Subset-le, Tests-right};
 
 mod word;
 
@@ -23,6 +23,12 @@ pub fn set_laws()
     ensures and_not_is_less { λ _. ⌜ And-not ⌝ }
     ensures trailing_zeros_is_lowest { λ _. ⌜ Lowest-is ⌝ }
     ensures ones_count_members { λ _. ⌜ Ones-are ⌝ }
+{}
+
+// The tests over the numbers below n are what they are called.
+pub fn counting_laws()
+    ensures some_right { λ _. ⌜ Some-right ⌝ }
+    ensures every_right { λ _. ⌜ Every-right ⌝ }
 {}
 
 // The laws of rising lists.

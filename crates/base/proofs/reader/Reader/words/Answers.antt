@@ -7,6 +7,8 @@ use Rattle.base.specs.Readers.{text}
 use Rattle.base.specs.Refusals.{number, index}
 use Rattle.base.specs.Sheets.{Read, passing, many, got}
 use Rattle.base.proofs.Reading.{behind, many-none, many-more, many-all, many-stop, told-break, stays-break, passing-step, slice-more}
+use Rattle.base.proofs.Tells.{words-tell}
+use Rattle.std.proofs.shelf.Results.{made-from-err}
 use Rattle.base.proofs.reader.Reader.words.Needs as need
 
 pub loop-done-holds : need.loop-done-holds
@@ -39,6 +41,7 @@ returns-in-Break-word g c =
     let f = c .in-Break-word .field-0 .0 in
     record {
       same-words = c .word .ensures .same-words ∙ c .loop-done .inv .0;
+      keeps-the-rule = made-from-err (c .from-residual .result) _ (c .from-residual .ensures .0);
       stays-before-a-refused-word = stays-break (c .from-residual .result) f (c .word .last .self .at) (c .from-residual .ensures .1) (c .in-Break-word .ensures tt .stays-before-a-refused-word);
       reads-so-many =
           told-break _ (c .from-residual .result) f _ (c .from-residual .ensures .1)
@@ -53,6 +56,9 @@ returns g c =
     let part : List ℕ → ℕ → Read ℕ = passing (g .R·WordRule .test (c .args .rule .now)) (g .R·WordRule .code) in
     let i = c .loop-done .inv .1 in
     let k : c .loop-done .self .at - c .args .self .now .at ≡ c .loop-done .done = omega arith in
-    let s = ap₂ (λ (n : ℕ) (us : List ℕ). take n (drop (c .args .self .now .at) us)) k (c .loop-done .inv .0) in
+    let read : List ℕ = take (c .loop-done .self .at - c .args .self .now .at) (drop (c .args .self .now .at) (text (c .loop-done .self))) in
+    let s : read ≡ take (c .loop-done .done) (drop (c .args .self .now .at) ws) = ap₂ (λ (n : ℕ) (us : List ℕ). take n (drop (c .args .self .now .at) us)) k (c .loop-done .inv .0) in
     let e = sym (c .loop-done .inv .2) ∙ many-all (part ws) (take (c .loop-done .done) (drop (c .args .self .now .at) ws)) (c .args .n) (c .loop-done .done) (c .loop-done .self .at) (omega arith) in
-    record { same-words = c .loop-done .inv .0; stays-before-a-refused-word = tt; reads-so-many = ap (λ xs. got xs (c .loop-done .self .at)) s ∙ sym e }
+    let whole : got read (c .loop-done .self .at) ≡ many (part ws) (c .args .n) (c .args .self .now .at) = ap (λ xs. got xs (c .loop-done .self .at)) s ∙ sym e in
+    let t = words-tell (g .R·WordRule .test (c .args .rule .now)) (g .R·WordRule .code) ws (c .args .n) (c .args .self .now .at) (c .loop-done .self .at) read (sym whole) in
+    record { same-words = c .loop-done .inv .0; keeps-the-rule = (t .1, t .2); stays-before-a-refused-word = tt; reads-so-many = whole }
