@@ -2,3 +2,4 @@ pub mod Reading
 pub mod Tells
 pub mod Finds
 pub mod Writing
+pub mod Tests

@@ -27,6 +27,7 @@ pub trait WordRule {
 }
 
 // A count of at most so many.
+#[derive(Drop)]
 pub struct AtMost(pub u64);
 
 pub impl WordRule for AtMost as AtMostRule {
