@@ -4,3 +4,5 @@ pub mod Admission
 pub mod RoundTrip
 pub mod Held
 pub mod Views
+pub mod Closed
+pub mod Laws

@@ -8,7 +8,7 @@ ghost use Rattle.base.specs.Places.{overwritten, written};
 ghost use Rattle.base.specs.Refusals.{outcome};
 ghost use Rattle.joints.specs.Admission.{admission};
 ghost use Rattle.joints.specs.Held.{jointOf};
-ghost use Rattle.joints.specs.Plans.{sheet};
+ghost use Rattle.joints.specs.Plans.{joint-at, sheet};
 ghost use Rattle.joints.specs.Views.{planOf};
 use crate::joint::Joint;
 use crate::plan::JointPlan;
@@ -27,11 +27,28 @@ impl JointPlan {
         self.joints.as_slice()
     }
 
+    // How many joints there are.
+    pub(crate) fn joint_count(&self) -> usize
+        ensures value { λ r. ⌜ r ≡ length (planOf (now (self .entry)) .joints) ⌝ }
+        ensures few { λ r. ⌜ r ≤ 31 ⌝ }
+    {
+        self.joints.len()
+    }
+
+    // Joint k.
+    pub(crate) fn joint(&self, k: usize) -> Joint
+        requires { ⌜ k < length (planOf (now self) .joints) ⌝ }
+        ensures value { λ r. ⌜ jointOf r ≡ joint-at (planOf (now (self .entry))) k ⌝ }
+        ensures bodies { λ r. ⌜ (r .first < 32) × (r .second < 32) ⌝ }
+    {
+        self.joints[k]
+    }
+
     // How many words its sheet has.
     pub fn words(&self) -> usize
         ensures counts_the_words { λ r. ⌜ r ≡ length (sheet (planOf (now (self .entry)))) ⌝ }
     {
-        self.bodies as usize + self.joints.len() + 2
+        self.bodies as usize + self.joint_count() + 2
     }
 
     // The word of its sheet at an index.
@@ -47,9 +64,9 @@ impl JointPlan {
             return 0;
         }
         if at == bodies + 1 {
-            return self.joints.len() as u64;
+            return self.joint_count() as u64;
         }
-        self.joints[at - bodies - 2].packed()
+        self.joint(at - bodies - 2).packed()
     }
 
     // Writes its sheet in front and answers how many words it has.

@@ -1,12 +1,10 @@
 use mathlib.Core.Path.{_≡_, sym, ap, _∙_}
 use mathlib.Core.List.{map}
-use Prim.Native.Nat.{ℕ, _-_, _<_, _≤_}
+use Prim.Native.Nat.{ℕ, _-_, _<_}
 use native.Mathlib.Omega.{arith}
 use lib.ListN.{length, getD}
-use Rattle.std.specs.Of.Vec.{vec-items, vec-len}
-use Rattle.std.proofs.shelf.Lists.{getD-map, length-map}
-use Rattle.joints.specs.Held.{jointOf}
-use Rattle.joints.specs.Plans.{word}
+use Rattle.std.proofs.shelf.Lists.{getD-map}
+use Rattle.joints.specs.Plans.{no-joint, word}
 use Rattle.joints.specs.Views.{planOf}
 use Rattle.joints.proofs.Plans.{at-body, at-count, at-joint, length-sheet}
 use Rattle.joints.proofs.plan.JointPlan.word.Needs as need
@@ -18,27 +16,18 @@ returns-then-at-bodies c =
 
 pub returns-then-at-bodies-2 : need.returns-then-at-bodies-2
 returns-then-at-bodies-2 c =
-    let p = c .args .self .now in
-    let q = planOf p in
-    let n : c .len .result ≡ length (q .joints) = omega (arith, c .len .ensures, p .joints .ok .0, length-map (vec-items (p .joints)) jointOf) in
-    n ∙ at-count (q .bodies) (length (q .joints)) (map word (q .joints)) (c .args .at) (omega (arith, c .if-at-bodies-2 .taken))
+    let p = planOf (c .args .self .now) in
+    c .joint-count .ensures .value ∙ at-count (p .bodies) (length (p .joints)) (map word (p .joints)) (c .args .at) (omega (arith, c .if-at-bodies-2 .taken))
 
-pub index-requires : need.index-requires
-index-requires c κs =
-    let p = c .args .self .now in
-    omega (arith, c .pre, length-sheet (planOf p), p .joints .ok .0, length-map (vec-items (p .joints)) jointOf, c .if-at-eq0 .left, c .if-at-bodies .left, c .if-at-bodies-2 .left)
+pub joint-requires : need.joint-requires
+joint-requires c κs = omega (arith, c .pre, length-sheet (planOf (c .args .self .now)), c .if-at-eq0 .left, c .if-at-bodies .left, c .if-at-bodies-2 .left)
 
 pub returns : need.returns
 returns c =
-    let p = c .args .self .now in
-    let q = planOf p in
-    let xs = vec-items (p .joints) in
+    let p = planOf (c .args .self .now) in
     let k = c .args .at - p .bodies - 2 in
-    let x = c .index .result .now in
-    let n = length-map xs jointOf in
     let ne = c .if-at-bodies-2 .left in
     let far = c .if-at-bodies .left in
-    let lt : k < length xs = omega (arith, c .pre, length-sheet q, n, c .if-at-eq0 .left, ne, far) in
-    let lt′ : k < length (map jointOf xs) = omega (arith, n) in
-    c .packed .ensures ∙ ap (λ j. word (jointOf j)) (c .index .ensures) ∙ ap word (sym (getD-map jointOf xs k x (jointOf x) lt)) ∙ sym (getD-map word (map jointOf xs) k (jointOf x) 0 lt′)
-    ∙ at-joint (q .bodies) (length (q .joints)) (map word (q .joints)) (c .args .at) (omega (arith, ne, far))
+    let lt : k < length (p .joints) = omega (arith, c .pre, length-sheet p, c .if-at-eq0 .left, ne, far) in
+    c .packed .ensures ∙ ap word (c .joint .ensures .value) ∙ sym (getD-map word (p .joints) k no-joint 0 lt)
+    ∙ at-joint (p .bodies) (length (p .joints)) (map word (p .joints)) (c .args .at) (omega (arith, ne, far))

@@ -1,0 +1,5 @@
+use Rattle.joints.proofs.Trips.{sheet-of-admitted, admission-of-sheet}
+use Rattle.joints.proofs.sheet_laws.Needs as need
+
+pub returns : need.returns
+returns c = record { admitted-plan-has-the-sheet = sheet-of-admitted; sheet-is-admitted-as-its-plan = admission-of-sheet }
