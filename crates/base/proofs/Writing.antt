@@ -1,5 +1,6 @@
 -- A buffer that is written from the front, or left.
 use mathlib.Core.Path.{_≡_, refl, sym, ap, ap₂, _∙_}
+use mathlib.Core.Bool.{Bool, true, false, cond}
 use mathlib.Core.List.{List, _++_}
 use Prim.Native.Nat.{ℕ, _+_, _≤_, _<_}
 use native.Mathlib.Omega.{arith}
@@ -7,8 +8,13 @@ use lib.Dec.{leb}
 use lib.ListN.{length, getD, set, drop}
 use lib.Seq.{paste}
 use Rattle.std.proofs.shelf.Edits.{paste-more, paste-all}
-use Rattle.std.proofs.shelf.Tests.{cond-true, cond-false, le-leb, lt-leb}
+use Rattle.std.proofs.shelf.Tests.{cond-true, cond-false, le-leb, leb-true, lt-leb}
+use Rattle.std.specs.Vec.{made}
+use Rattle.std.specs.declared.result.Result.{Result}
+use Rattle.std.specs.declared.result.Result.the-variants.{Ok, Err}
+use Rattle.base.specs.declared.refusal.Refusal.{Refusal}
 use Rattle.base.specs.Outcomes.{Outcome, accepted, refused}
+use Rattle.base.specs.Refusals.{outcome}
 use Rattle.base.specs.Places.{written, overwritten}
 
 -- one more place
@@ -36,3 +42,12 @@ module _ {X : Type 0} (text places : List X) where
 
   pub overwritten-short : length places < length text → overwritten text places ≡ places
   overwritten-short h = cond-false (leb (length text) (length places)) (text ++ drop (length text) places) places (lt-leb (length text) (length places) h)
+
+-- what is answered is no more than there are places
+pub written-fits : {X : Type 0} (text places : List X) (r : Result ℕ Refusal) → outcome (λ n. n) r ≡ written text places → made r (λ n. n ≤ length places)
+written-fits text places (Ok n) e = go (leb (length text) (length places)) refl e
+  where
+    go : (b : Bool) → leb (length text) (length places) ≡ b → accepted n ≡ cond b (accepted (length text)) (refused 8 0) → n ≤ length places
+    go true t h = let same : n ≡ length text = cc in omega (arith, leb-true (length text) (length places) t)
+    go false t h = let z : _≡_ {A = ℕ} 0 1 = cc in absurd (omega arith)
+written-fits text places (Err f) e = tt

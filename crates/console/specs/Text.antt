@@ -1,0 +1,32 @@
+-- The console's lines, as bytes.
+use mathlib.Core.Bool.{Bool, true, false}
+use mathlib.Core.List.{List, [], _∷_, _++_}
+use Prim.Native.Nat.{ℕ}
+use lib.Chars.{codes}
+use Rattle.std.specs.Written.{decimal}
+use Rattle.std.specs.shelf.Lists.{joined}
+
+-- a number after a blank
+abbrev pub blank-decimal : ℕ → List ℕ
+blank-decimal n = 32 ∷ decimal n
+
+-- each number after a blank
+abbrev pub spaced : List ℕ → List ℕ
+spaced numbers = joined blank-decimal numbers
+
+-- a word and numbers, ended by byte 10
+abbrev pub number-line : List ℕ → List ℕ → List ℕ
+number-line word numbers = word ++ (spaced numbers ++ 10 ∷ [])
+
+-- how many items there are
+abbrev pub items-line : ℕ → List ℕ
+items-line count = number-line (codes "items") (count ∷ [])
+
+-- a refusal's number and its index in the sheet
+abbrev pub refused-line : ℕ → ℕ → List ℕ
+refused-line number index = number-line (codes "refused") (number ∷ index ∷ [])
+
+-- the verdict of all items together
+abbrev pub verdict-line : Bool → List ℕ
+verdict-line true = number-line (codes "verdict yes") []
+verdict-line false = number-line (codes "verdict no") []
