@@ -11,6 +11,9 @@ mod sets;
 mod write;
 
 pub use joint::Joint;
+pub use joint::JointDebug;
+pub use joint::JointEq;
+pub use joint::JointPartialEq;
 pub use plan::JointPlan;
 pub use sets::JointSets;
 pub use sets::JointSetsCriterion;
