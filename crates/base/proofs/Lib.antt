@@ -3,3 +3,4 @@ pub mod Tells
 pub mod Finds
 pub mod Writing
 pub mod Tests
+pub mod Stops

@@ -103,7 +103,7 @@ pub impl Criterion for JointSets as JointSetsCriterion {
     }
 
     fn check(&mut self, set: u32) -> bool
-        ensures answers_the_verdict { λ r. ⌜ (true ≡ true → r ≡ joint-sets (planOf (now (self .entry) .plan)) .verdict set) ⌝ }
+        ensures answers_the_verdict { λ r. ⌜ (joint-sets (planOf (now (self .entry) .plan)) .order ≡ true → r ≡ joint-sets (planOf (now (self .entry) .plan)) .verdict set) ⌝ }
         ensures keeps_the_meaning { λ _. ⌜ joint-sets (planOf (now (self .exit) .plan)) ≡ joint-sets (planOf (now (self .entry) .plan)) ⌝ }
         ensures yes_exactly_with_a_closed_part { λ r. ⌜ (r ≡ true) ↔ HasClosedPart (planOf (now (self .entry) .plan)) set ⌝ }
     {
