@@ -3,7 +3,7 @@ use Prim.Native.Nat.{ℕ}
 use Rattle.std.specs.declared.result.Result.{Result}
 use Rattle.std.specs.declared.result.Result.the-variants.{Ok, Err}
 use Rattle.base.specs.declared.refusal.Refusal.{Refusal}
-use Rattle.base.specs.declared.refusal.Refusal.the-variants.{MissingWord, CountTooLarge, WordsLeftOver, BodyWord, JointWord, TooFewPlaces, OddLength, UnknownKind}
+use Rattle.base.specs.declared.refusal.Refusal.the-variants.{MissingWord, CountTooLarge, WordsLeftOver, BodyWord, JointWord, TooFewPlaces, NoSuchItem, AlreadyOut, AlreadyIn, GetsNo, TooManyCores, OddLength, UnknownKind}
 use Rattle.base.specs.Outcomes.{Outcome, accepted, refused}
 
 abbrev pub number : Refusal → ℕ
@@ -13,6 +13,11 @@ number (WordsLeftOver i) = 5
 number (BodyWord i) = 6
 number (JointWord i) = 7
 number TooFewPlaces = 8
+number NoSuchItem = 9
+number AlreadyOut = 10
+number AlreadyIn = 11
+number GetsNo = 12
+number TooManyCores = 13
 number OddLength = 14
 number UnknownKind = 15
 
@@ -24,6 +29,11 @@ index (WordsLeftOver i) = i
 index (BodyWord i) = i
 index (JointWord i) = i
 index TooFewPlaces = 0
+index NoSuchItem = 0
+index AlreadyOut = 0
+index AlreadyIn = 0
+index GetsNo = 0
+index TooManyCores = 0
 index OddLength = 0
 index UnknownKind = 0
 

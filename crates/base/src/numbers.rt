@@ -14,6 +14,11 @@ impl Refusal {
             Refusal::BodyWord(_) => 6,
             Refusal::JointWord(_) => 7,
             Refusal::TooFewPlaces => 8,
+            Refusal::NoSuchItem => 9,
+            Refusal::AlreadyOut => 10,
+            Refusal::AlreadyIn => 11,
+            Refusal::GetsNo => 12,
+            Refusal::TooManyCores => 13,
             Refusal::OddLength => 14,
             Refusal::UnknownKind => 15,
         }
@@ -30,6 +35,11 @@ impl Refusal {
             Refusal::BodyWord(index) => *index,
             Refusal::JointWord(index) => *index,
             Refusal::TooFewPlaces => 0,
+            Refusal::NoSuchItem => 0,
+            Refusal::AlreadyOut => 0,
+            Refusal::AlreadyIn => 0,
+            Refusal::GetsNo => 0,
+            Refusal::TooManyCores => 0,
             Refusal::OddLength => 0,
             Refusal::UnknownKind => 0,
         }

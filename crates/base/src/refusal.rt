@@ -13,6 +13,16 @@ pub enum Refusal {
     JointWord(usize),
     // 8: the buffer has too few places
     TooFewPlaces,
+    // 9: there is no such item
+    NoSuchItem,
+    // 10: the item is out of the scope already
+    AlreadyOut,
+    // 11: the item is in the scope already
+    AlreadyIn,
+    // 12: the scope gets no, so it has no core
+    GetsNo,
+    // 13: the cores outnumber the places
+    TooManyCores,
     // 14: the input's length is no multiple of 8
     OddLength,
     // 15: the input names no kind, or one that there is not

@@ -107,3 +107,9 @@ less-code k i s h lt = ap (λ (x : ℕ). bitAnd s (2 ^ k - 1 - x)) (one-shl i k 
 
 pub full-code : (k n : ℕ) → n < k → (1 * 2 ^ n) % 2 ^ k - 1 ≡ full n
 full-code k n lt = ap (λ (x : ℕ). x - 1) (one-shl n k lt)
+
+-- ---- with no width: a number has no more bits than itself
+
+pub below-itself : (n : ℕ) → n < 2 ^ n
+below-itself zero = omega arith
+below-itself (suc n) = let h = below-itself n in let e = pow-suc 2 n in omega arith

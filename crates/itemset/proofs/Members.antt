@@ -197,3 +197,18 @@ outside-or p k =
 -- a proper subset leaves a member out
 pub one-outside : (p k : ℕ) → p ⊆ k → (p ≡ k → ⊥) → (i : ℕ) × (i ∈ k) × (i ∈ p → ⊥)
 one-outside p k s ne = ⊎-elim (λ o. o) (λ t. absurd (ne (same-members p k s t))) (outside-or p k)
+
+-- ---- a set less something, or less one member
+
+pub less-mono : (a b d : ℕ) → a ⊆ b → less a d ⊆ less b d
+less-mono a b d s i p = let q = in-less i a d .0 p in in-less i b d .1 (s i (q .0), q .1)
+
+pub sub-lacking : (a s i : ℕ) → a ⊆ s → (i ∈ a → ⊥) → a ⊆ less s (2 ^ i)
+sub-lacking a s i h out j p = in-less j s (2 ^ i) .1 (h j p, λ r. out (subst (λ (x : ℕ). x ∈ a) (in-one j i .0 r) p))
+
+pub out-lacking : (s i : ℕ) → i ∈ less s (2 ^ i) → ⊥
+out-lacking s i p = in-less i s (2 ^ i) .0 p .1 (in-one i i .1 refl)
+
+pub less-falls : (s i : ℕ) → i ∈ s → less s (2 ^ i) < s
+less-falls s i p =
+    ⊎-elim (λ z. absurd (none-in i (subst (λ (x : ℕ). i ∈ x) z (in-and i s (2 ^ i) .1 (p, in-one i i .1 refl))))) (λ ne. omega (arith, ne, and-le-l s (2 ^ i))) (cases-eq (bitAnd s (2 ^ i)) 0)
