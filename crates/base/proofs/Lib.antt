@@ -4,3 +4,4 @@ pub mod Finds
 pub mod Writing
 pub mod Tests
 pub mod Stops
+pub mod Numbered

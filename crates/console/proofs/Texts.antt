@@ -1,15 +1,18 @@
 -- Texts that grow at the end.
 use mathlib.Core.Path.{_≡_, refl, sym, ap, ap₂, subst, _∙_}
+use mathlib.Core.Bool.{Bool, true, false, cond}
 use mathlib.Core.List.{List, [], _∷_, _++_, append-assoc, append-nil, map}
 use Prim.Native.Nat.{ℕ, _+_, _*_, _/_, _%_, _^_, _≤_, _<_}
 use native.Mathlib.Omega.{arith}
 use lib.ListN.{length, getD, take}
 use Rattle.std.specs.Written.{decimal}
 use Rattle.std.specs.Iters.{counting}
-use Rattle.std.specs.shelf.Lists.{joined}
-use Rattle.std.proofs.shelf.Counted.{map-counting-more}
+use Rattle.std.specs.shelf.Lists.{joined, kept-by}
+use Rattle.std.proofs.shelf.Counted.{kept-by-map-counting-more, map-counting-more}
 use Rattle.std.proofs.shelf.Decimals.{decimal-digit, decimal-step, length-decimal-le}
-use Rattle.std.proofs.shelf.Lists.{take-more, take-all, length-push, length-take-le}
+use Rattle.std.proofs.shelf.Lists.{take-more, take-all, map-id, joined-more, length-push, length-take-le}
+use Rattle.std.proofs.shelf.Tests.{cond-true, cond-false}
+use Rattle.itemset.specs.Sets.{has, members}
 use Rattle.console.specs.Text.{spaced, blank-decimal, number-line}
 use Rattle.console.specs.Views.{textOf}
 use Rattle.console.specs.declared.line.Line.{Line}
@@ -40,6 +43,9 @@ digit-only a c n low f = f ∙ ap (λ ys. a ++ ys) (sym (decimal-digit n low))
 pub length-digit : (n : ℕ) → n < 10 → length (decimal n) ≡ 1
 length-digit n low = ap length (decimal-digit n low)
 
+pub length-two : (n : ℕ) → n < 100 → length (decimal n) ≤ 2
+length-two n low = length-decimal-le 2 n (omega arith) (omega arith) (omega arith)
+
 pub length-any : (n : ℕ) → n < 2 ^ 64 → length (decimal n) ≤ 20
 length-any n fits = length-decimal-le 20 n (omega arith) (omega arith) fits
 
@@ -60,3 +66,37 @@ two-numbers w a b b′ c m n e f f′ g =
 -- one more word of the input
 pub words-more : (f : ℕ → ℕ) (k x : ℕ) (xs ys : List ℕ) → xs ≡ map f (counting 0 k) → ys ≡ xs ++ x ∷ [] → x ≡ f k → ys ≡ map f (counting 0 (k + 1))
 words-more f k x xs ys e g h = g ∙ ap₂ (λ (zs : List ℕ) (z : ℕ). zs ++ z ∷ []) e h ∙ sym (map-counting-more f 0 k k (omega arith))
+
+-- ---- the items of a set
+
+-- a word and those items below k that lie in the set
+pub record Going (word row : List ℕ) (set k len : ℕ) : Type 0 where
+  pub text : row ≡ word ++ spaced (kept-by (λ i. has i set) (counting 0 k))
+  pub room : len ≤ 7 + 3 * k
+
+kept-more : (p : ℕ → Bool) (k : ℕ) → kept-by p (counting 0 (k + 1)) ≡ kept-by p (counting 0 k) ++ cond (p k) (k ∷ []) []
+kept-more p k =
+    let same : (n : ℕ) → kept-by p (map (λ x. x) (counting 0 n)) ≡ kept-by p (counting 0 n) = λ n. ap (kept-by p) (map-id (counting 0 n)) in
+    sym (same (k + 1)) ∙ kept-by-map-counting-more p (λ x. x) 0 k k (omega arith) ∙ ap (λ xs. xs ++ cond (p k) (k ∷ []) []) (same k)
+
+pub going-none : (word text : List ℕ) (set len : ℕ) → text ≡ word → len ≤ 7 → Going word text set 0 len
+going-none word text set len e r = record { text = e ∙ sym (append-nil word); room = omega arith }
+
+pub going-skip : (word text : List ℕ) (set k len : ℕ) → Going word text set k len → has k set ≡ false → Going word text set (k + 1) len
+going-skip word text set k len h f = record {
+  text = h .text ∙ ap (λ xs. word ++ spaced xs) (sym (kept-more (λ i. has i set) k ∙ ap (λ xs. kept-by (λ i. has i set) (counting 0 k) ++ xs) (cond-false (has k set) (k ∷ []) [] f) ∙ append-nil (kept-by (λ i. has i set) (counting 0 k))));
+  room = let r = h .room in omega arith;
+}
+
+pub going-add : (word text text′ : List ℕ) (set k len len′ : ℕ) → Going word text set k len → has k set ≡ true → text′ ≡ text ++ spaced (k ∷ []) → len′ ≤ len + 3 → Going word text′ set (k + 1) len′
+going-add word text text′ set k len len′ h t e r = record {
+  text =
+      e ∙ ap₂ (λ (xs ys : List ℕ). xs ++ ys) (h .text) (append-nil (blank-decimal k)) ∙ joined-more blank-decimal word (kept-by (λ i. has i set) (counting 0 k)) k
+      ∙ ap (λ xs. word ++ spaced xs) (sym (kept-more (λ i. has i set) k ∙ ap (λ xs. kept-by (λ i. has i set) (counting 0 k) ++ xs) (cond-true (has k set) (k ∷ []) [] t)));
+  room = let q = h .room in omega arith;
+}
+
+pub going-all : (word text text′ : List ℕ) (set k len : ℕ) → Going word text set k len → k ≡ 32 → text′ ≡ text ++ 10 ∷ [] → text′ ≡ number-line word (members 32 set)
+unfolding members
+going-all word text text′ set k len h e f =
+    f ∙ ap (λ xs. xs ++ 10 ∷ []) (h .text ∙ ap (λ n. word ++ spaced (kept-by (λ i. has i set) (counting 0 n))) e) ∙ append-assoc word (spaced (members 32 set)) (10 ∷ [])

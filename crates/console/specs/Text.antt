@@ -1,10 +1,10 @@
 -- The console's lines, as bytes.
-use mathlib.Core.Bool.{Bool, true, false}
 use mathlib.Core.List.{List, [], _∷_, _++_}
 use Prim.Native.Nat.{ℕ}
 use lib.Chars.{codes}
 use Rattle.std.specs.Written.{decimal}
 use Rattle.std.specs.shelf.Lists.{joined}
+use Rattle.itemset.specs.Sets.{members}
 
 -- a number after a blank
 abbrev pub blank-decimal : ℕ → List ℕ
@@ -26,7 +26,10 @@ items-line count = number-line (codes "items") (count ∷ [])
 abbrev pub refused-line : ℕ → ℕ → List ℕ
 refused-line number index = number-line (codes "refused") (number ∷ index ∷ [])
 
--- the verdict of all items together
-abbrev pub verdict-line : Bool → List ℕ
-verdict-line true = number-line (codes "verdict yes") []
-verdict-line false = number-line (codes "verdict no") []
+-- the items that lie in every core
+abbrev pub common-line : List ℕ → List ℕ
+common-line items = number-line (codes "common") items
+
+-- the items of a core
+abbrev pub core-line : ℕ → List ℕ
+core-line set = number-line (codes "core") (members 32 set)

@@ -4,9 +4,12 @@ ghost use mathlib.Core.Path.{_≡_};
 ghost use Prim.Native.Nat.{_+_, _≤_, _<_};
 ghost use lib.ListN.{length};
 ghost use Rattle.std.specs.Written.{decimal};
+ghost use Rattle.itemset.specs.Sets.{members};
 ghost use Rattle.console.specs.Text.{number-line, spaced};
 ghost use Rattle.console.specs.Views.{textOf};
 use crate::line::Line;
+use itemset::ItemSet;
+use itemset::WordSet;
 
 impl Line {
     fn empty() -> Line
@@ -53,22 +56,12 @@ impl Line {
 
     // A line that begins with a word.
     pub(crate) fn begun(word: &[u8]) -> Line
-        requires { ⌜ length (now word) ≤ 16 ⌝ }
+        requires { ⌜ length (now word) ≤ 7 ⌝ }
         ensures text { λ r. ⌜ textOf r ≡ now (word .entry) ⌝ }
-        ensures len { λ r. ⌜ r .len ≤ 16 ⌝ }
+        ensures len { λ r. ⌜ r .len ≤ 7 ⌝ }
     {
         let mut line = Line::empty();
         line.push_text(word);
-        line
-    }
-
-    // A line with no numbers.
-    pub(crate) fn bare(word: &[u8]) -> Line
-        requires { ⌜ length (now word) ≤ 16 ⌝ }
-        ensures { λ r. ⌜ textOf r ≡ number-line (now (word .entry)) [] ⌝ }
-    {
-        let mut line = Line::begun(word);
-        line.push(b'\n');
         line
     }
 
@@ -77,8 +70,24 @@ impl Line {
         requires { ⌜ now self .len + 21 ≤ 128 ⌝ }
         ensures text { λ _. ⌜ textOf (now (self .exit)) ≡ textOf (now (self .entry)) ++ spaced (number ∷ []) ⌝ }
         ensures len { λ _. ⌜ now (self .exit) .len ≤ now (self .entry) .len + 21 ⌝ }
+        ensures short { λ _. ⌜ (number < 100 → now (self .exit) .len ≤ now (self .entry) .len + 3) ⌝ }
     {
         self.push(b' ');
         self.push_decimal(number);
+    }
+
+    // A word and the items of a set.
+    pub(crate) fn of_set(word: &[u8], set: u32) -> Line
+        requires { ⌜ length (now word) ≤ 7 ⌝ }
+        ensures { λ r. ⌜ textOf r ≡ number-line (now (word .entry)) (members 32 set) ⌝ }
+    {
+        let mut line = Line::begun(word);
+        for item in 0..32 {
+            if set.holds(item) {
+                line.push_number(item as usize);
+            }
+        }
+        line.push(b'\n');
+        line
     }
 }

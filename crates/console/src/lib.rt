@@ -6,7 +6,9 @@ mod console;
 mod input;
 mod line;
 mod lines;
+mod report;
 mod respond;
+mod room;
 
 pub use console::Console;
 pub use line::Line;

@@ -2,7 +2,8 @@
 ghost use mathlib.Core.Path.{_≡_};
 ghost use Rattle.base.specs.Places.{overwritten, written};
 ghost use Rattle.base.specs.Refusals.{index as indexOf, number as numberOf, outcome};
-ghost use Rattle.console.specs.Text.{items-line, refused-line, verdict-line};
+ghost use Rattle.itemset.specs.Sets.{members};
+ghost use Rattle.console.specs.Text.{common-line, core-line, items-line, refused-line};
 ghost use Rattle.console.specs.Views.{textOf};
 use crate::line::Line;
 use base::Refusal;
@@ -18,14 +19,18 @@ impl Line {
         line
     }
 
-    // The verdict of all items together.
-    pub fn verdict(yes: bool) -> Line
-        ensures is_the_verdict_line { λ r. ⌜ textOf r ≡ verdict-line yes ⌝ }
+    // The items that lie in every core.
+    pub fn common(set: u32) -> Line
+        ensures is_the_common_line { λ r. ⌜ textOf r ≡ common-line (members 32 set) ⌝ }
     {
-        if yes {
-            return Line::bare(b"verdict yes");
-        }
-        Line::bare(b"verdict no")
+        Line::of_set(b"common", set)
+    }
+
+    // The items of a core.
+    pub fn core(set: u32) -> Line
+        ensures is_the_core_line { λ r. ⌜ textOf r ≡ core-line set ⌝ }
+    {
+        Line::of_set(b"core", set)
     }
 
     // A refusal's number and index.

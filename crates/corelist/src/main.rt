@@ -1,4 +1,4 @@
-// Reads a kind and a sheet from standard input and prints the response.
+// Reads a kind and a sheet from standard input and prints the cores.
 ghost use Prim.Native.Nat.{_≤_};
 ghost use lib.ListN.{length};
 ghost use Rattle.std.specs.Vec.{made};
@@ -25,8 +25,7 @@ fn fill(input: &mut io::Stdin, places: &mut [u8]) -> io::Result<usize>
 
 // Prints the response to the input, by way of the output buffer.
 fn print(rt: &LibcRuntime, console: Console, input: &[u8], output: &mut [u8]) -> io::Result<()> {
-    let (_console, answer) = console.respond(input, output);
-    match answer {
+    match console.respond(input, output) {
         Ok(len) => rt.stdout().write_all(&output[0..len]),
         Err(refusal) => rt.stdout().write_all(Line::refused(refusal).as_slice()),
     }
@@ -36,7 +35,7 @@ fn main(rt: LibcRuntime) -> io::Result<()> {
     let heap = rt.alloc();
     let console = Console::new(heap)?;
     let mut input = vec![in heap; 0u8; 24656]?;
-    let mut output = vec![in heap; 0u8; 256]?;
+    let mut output = vec![in heap; 0u8; 524544]?;
     let count = fill(&mut rt.stdin(), &mut input)?;
     print(&rt, console, &input[0..count], &mut output)
 }

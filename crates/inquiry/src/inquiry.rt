@@ -17,6 +17,7 @@ use base::Refusal;
 use criterion::Criterion;
 use criterion::GroupedCriterion;
 
+#[derive(Drop)]
 pub struct Inquiry<C> {
     pub(crate) criterion: C,
     pub(crate) scope: Scope,

@@ -17,10 +17,10 @@ fn lines() -> Result<(), Fail> {
     check(places == *b"............")?;
     check_eq(Line::items(31).write(&mut places), Ok(9))?;
     check(places == *b"items 31\n...")?;
-    check_eq(Line::verdict(false).write(&mut places), Ok(11))?;
-    check(places == *b"verdict no\n.")?;
-    check_eq(Line::verdict(true).write(&mut places), Ok(12))?;
-    check(places == *b"verdict yes\n")?;
+    check_eq(Line::common(0).write(&mut places), Ok(7))?;
+    check(places == *b"common\n1\n...")?;
+    check_eq(Line::core(0x8000_0001).as_slice(), b"core 0 31\n")?;
+    check_eq(Line::common(0b110).as_slice(), b"common 1 2\n")?;
     check_eq(
         Line::refused(Refusal::JointWord(12345)).as_slice(),
         b"refused 7 12345\n",
@@ -46,10 +46,10 @@ fn responses(rt: LibcRuntime) -> Result<(), Fail> {
     let table: [(&[u64], &[u8]); 9] = [
         (
             &[3, 3, 0, 0, 0, 4, 256, 513, 2, 256],
-            b"items 4\nverdict yes\n",
+            b"items 4\ncommon\ncore 0 1 2\ncore 0 3\ncore 1 2 3\n",
         ),
-        (&[3, 3, 0, 0, 0, 2, 256, 513], b"items 2\nverdict no\n"),
-        (&[3, 0, 0], b"items 0\nverdict no\n"),
+        (&[3, 3, 0, 0, 0, 2, 256, 513], b"refused 12 0\n"),
+        (&[3, 2, 0, 0, 2, 256, 1], b"items 2\ncommon 0 1\ncore 0 1\n"),
         (&[], b"refused 15 0\n"),
         (&[0], b"refused 15 0\n"),
         (&[u64::MAX, 0, 0], b"refused 15 0\n"),
@@ -57,18 +57,15 @@ fn responses(rt: LibcRuntime) -> Result<(), Fail> {
         (&[3, 33], b"refused 3 0\n"),
         (&[3, 0, 0, 0], b"refused 5 2\n"),
     ];
-    let mut console = Console::new(heap)?;
     for (words, text) in table {
         let input = bytes(heap, words)?;
         let mut out = [b'.'; 64];
-        let (next, answer) = console.respond(input.as_slice(), &mut out);
-        console = next;
+        let answer = Console::new(heap)?.respond(input.as_slice(), &mut out);
         check_eq(answer, Ok(text.len()))?;
         check(out.starts_with(text))?;
         check_eq(out[63], b'.')?;
         let mut short = [b'.'; 12];
-        let (next, answer) = console.respond(input.as_slice(), &mut short);
-        console = next;
+        let answer = Console::new(heap)?.respond(input.as_slice(), &mut short);
         if text.len() > 12 {
             check_eq(answer, Err(Refusal::TooFewPlaces))?;
             check(short == [b'.'; 12])?;
@@ -82,7 +79,6 @@ fn responses(rt: LibcRuntime) -> Result<(), Fail> {
 #[test]
 fn lengths(rt: LibcRuntime) -> Result<(), Fail> {
     let heap = rt.alloc();
-    let mut console = Console::new(heap)?;
     for (len, text) in [
         (1usize, b"refused 14 0\n"),
         (7, b"refused 14 0\n"),
@@ -94,8 +90,7 @@ fn lengths(rt: LibcRuntime) -> Result<(), Fail> {
     ] {
         let input = vec![in heap; 0u8; len]?;
         let mut out = [b'.'; 16];
-        let (next, answer) = console.respond(input.as_slice(), &mut out);
-        console = next;
+        let answer = Console::new(heap)?.respond(input.as_slice(), &mut out);
         check_eq(answer, Ok(13))?;
         check(out.starts_with(text))?;
     }

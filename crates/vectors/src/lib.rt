@@ -8,6 +8,8 @@ pub use counting::CountingGroups;
 #[cfg(test)]
 mod console_tests;
 #[cfg(test)]
+mod inquiry_tests;
+#[cfg(test)]
 mod joint_tests;
 #[cfg(test)]
 mod memory_tests;

@@ -5,7 +5,4 @@ use Rattle.console.proofs.Printing.{replied-plan}
 use Rattle.console.proofs.respond.reply.Needs as need
 
 pub returns : need.returns
-returns c = record {
-  text = c .answer-joints .ensures .text ∙ ap (λ xs. vec-items (c .args .text .now) ++ xs) (replied-plan (c .args .words .now) (c .if-is-empty .ensures tt) (c .if-words-ne3 .left));
-  capacity = c .answer-joints .ensures .capacity;
-}
+returns c = c .answer-joints .ensures ∙ ap (λ xs. vec-items (c .args .text .now) ++ xs) (replied-plan (c .args .words .now) (c .if-is-empty .ensures tt) (c .if-words-ne3 .left))
