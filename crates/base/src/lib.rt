@@ -1,4 +1,6 @@
 // What every layer shares: refusals with their numbers, the reading of sheets and the writing of buffers.
+#![tactic(auto)]
+
 mod numbers;
 mod places;
 mod reader;

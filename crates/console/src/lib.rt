@@ -1,4 +1,6 @@
 // The console: from the bytes of an input to the bytes of the response.
+#![tactic(auto)]
+
 ghost use Rattle.console.specs.Examples.{Responses};
 
 mod build;

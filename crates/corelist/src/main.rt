@@ -1,4 +1,6 @@
 // Reads a kind and a sheet from standard input and prints the cores.
+#![tactic(auto)]
+
 ghost use Rattle.std.specs.Prelude.{◌≤◌, length, IfOk};
 
 use console::{Console, Line};

@@ -22,8 +22,8 @@ spare_small : (E K x : ℕ) → E < 2 ^ 32 → x ⊆ E → spare K x ≤ 32
 spare_small E K x fits s = ones-le 32 (less x K) (omega (arith, subset_le x E s, and_le_l x K))
 
 -- the count as the code makes it
-pub spare-is : (E K x : ℕ) → E < 2 ^ 32 → K < 2 ^ 32 → x ⊆ E → ones (bit_and x (2 ^ 32 - 1 - K)) ≡ spare K x
-spare-is E K x e k s = ap ones (and_not 32 x K (omega (arith, subset_le x E s)) k)
+pub spare_is : (E K x : ℕ) → E < 2 ^ 32 → K < 2 ^ 32 → x ⊆ E → ones (bit_and x (2 ^ 32 - 1 - K)) ≡ spare K x
+spare_is E K x e k s = ap ones (and_not 32 x K (omega (arith, subset_le x E s)) k)
 
 module _ (row : List ℕ) (E K i : ℕ) (lt : i < length row) where
   further : (C : ℕ) → Contains (take i row) C → Contains (take (i + 1) row) C

@@ -8,7 +8,7 @@ use Rattle.std.proofs.lemmas.Slice.{between_is}
 use Rattle.std.proofs.lemmas.List.Sums.{prefix_len-le-length}
 use Rattle.std.proofs.lemmas.Bool.{ltb-true, ltb-false}
 use Rattle.itemset.specs.Lists.{Rising}
-use Rattle.itemset.proofs.Rows.{Mem, has-from-mem, mem_from_has}
+use Rattle.itemset.proofs.Rows.{Mem, has_from_mem, mem_from_has}
 use Rattle.cores.specs.Rows.{Row, Grown, placed}
 
 -- ---- what the code does
@@ -110,11 +110,11 @@ module _ (n count x : ℕ) (xs ys : List ℕ) (r : Row n count xs) (room : count
       below = subst (All (λ K. K < 2 ^ n)) (sym front_is) (all_placed (λ K. K < 2 ^ n) x (take count xs) small r.below);
       zeros = ap (drop (count + 1)) is ∙ drop_at (placed x (take count xs)) (drop (count + 1) xs) (count + 1) many ∙ behind ∙ ap (λ k. replicate (k - (count + 1)) 0) (sym long);
     };
-    keeps = λ K h. subst (λ zs. Contains zs K) (sym front_is) (has-from-mem K (placed x (take count xs)) (mem_old x K (take count xs) (mem_from_has K (take count xs) h)));
+    keeps = λ K h. subst (λ zs. Contains zs K) (sym front_is) (has_from_mem K (placed x (take count xs)) (mem_old x K (take count xs) (mem_from_has K (take count xs) h)));
   }
 
   pub has_it : Contains (take (count + 1) ys) x
-  has_it = subst (λ zs. Contains zs x) (sym front_is) (has-from-mem x (placed x (take count xs)) (mem_new x (take count xs)))
+  has_it = subst (λ zs. Contains zs x) (sym front_is) (has_from_mem x (placed x (take count xs)) (mem_new x (take count xs)))
 
 pub grown_same : (n count : ℕ) (xs : List ℕ) → Row n count xs → Grown n count xs count xs
 grown_same n count xs r = record { row = r; keeps = λ K h. h }

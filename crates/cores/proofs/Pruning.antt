@@ -17,8 +17,8 @@ pub record Pruning (m : Meaning) (E rank left i : ℕ) : Type 0 where
   pub spared : (j : ℕ) → j ∈ E → (m.group j ≡ rank → ⊥) → j ∈ left
   pub tried : (j : ℕ) → j < i → j ∈ left → m.group j ≡ rank → m.verdict (less left (2 ^ j)) ≡ false
 
-pub pruning-none : (m : Meaning) (E rank : ℕ) → m.verdict E ≡ true → Pruning m E rank E 0
-pruning-none m E rank t = record { inside = λ i p. p; gets = t; spared = λ j p ne. p; tried = λ j lt p r. absurd (omega arith) }
+pub pruning_none : (m : Meaning) (E rank : ℕ) → m.verdict E ≡ true → Pruning m E rank E 0
+pruning_none m E rank t = record { inside = λ i p. p; gets = t; spared = λ j p ne. p; tried = λ j lt p r. absurd (omega arith) }
 
 -- what is no in a set is no in its subsets
 no_within : (V : ℕ → Bool) → Monotone V → (a b : ℕ) → a ⊆ b → V b ≡ false → V a ≡ false
@@ -78,9 +78,9 @@ module _ (m : Meaning) (lawful : Lawful m) (E a b K : ℕ) (one : Pruned m E 0 a
   V : ℕ → Bool
   V = m.verdict
 
-  pub grouped-core : GroupedCore m E K
+  pub grouped_core : GroupedCore m E K
   unfolding V
-  grouped-core = record {
+  grouped_core = record {
     core = shrunk V lawful.monotone E K (λ i p. one.inside i (K_a i p)) three.gets needed';
     first = λ L c in₀ i p g. inside_or L i (λ out. both_ways (V (less a (2 ^ i))) (one.tight i (K_a i p) g) (lawful.monotone L (less a (2 ^ i)) (sub_lacking L a i (L_a L c in₀) out) c.gets));
     second = λ L c in₀ _ in₁ i p g. inside_or L i (λ out. both_ways (V (less b (2 ^ i))) (two.tight i (three.inside i p) g) (lawful.monotone L (less b (2 ^ i)) (sub_lacking L b i (L_b L c in₀ in₁) out) c.gets));

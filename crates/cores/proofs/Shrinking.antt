@@ -39,8 +39,8 @@ module _ (V : ℕ → Bool) (law : Monotone V) (E left i : ℕ) where
   }
 
   -- it goes
-  pub shrinking-goes : V (less left (2 ^ i)) ≡ true → Shrinking V E left i → Shrinking V E (less left (2 ^ i)) (i + 1)
-  shrinking-goes t h = record {
+  pub shrinking_goes : V (less left (2 ^ i)) ≡ true → Shrinking V E left i → Shrinking V E (less left (2 ^ i)) (i + 1)
+  shrinking_goes t h = record {
     inside = λ j p. h.inside j (less_sub left (2 ^ i) j p);
     gets = t;
     tried = λ j lt p. ⊎_elim (λ tp. absurd (both_ways (V (less left (2 ^ j))) (h.tried j (before j lt p) (less_sub left (2 ^ i) j p)) (law (less (less left (2 ^ i)) (2 ^ j)) (less left (2 ^ j)) (less_mono (less left (2 ^ i)) left (2 ^ j) (less_sub left (2 ^ i))) tp))) (λ fp. fp) (cases_Bool (V (less (less left (2 ^ i)) (2 ^ j))));
@@ -56,7 +56,7 @@ shrinking_all V law E left n i below le h = shrunk V law E left h.inside h.gets 
 module _ (V : ℕ → Bool) (law : Monotone V) (E left i fewer : ℕ) (cut : fewer ≡ cond (has i left) (less left (2 ^ i)) left) where
   pub turn_goes : V fewer ≡ true → Shrinking V E left i → Shrinking V E fewer (i + 1)
   turn_goes t h = ⊎_elim
-      (λ y. let e = cut ∙ cond-true (has i left) _ _ y in subst (λ x. Shrinking V E x (i + 1)) (sym e) (shrinking-goes V law E left i (ap V (sym e) ∙ t) h))
+      (λ y. let e = cut ∙ cond-true (has i left) _ _ y in subst (λ x. Shrinking V E x (i + 1)) (sym e) (shrinking_goes V law E left i (ap V (sym e) ∙ t) h))
       (λ n. let e = cut ∙ cond-false (has i left) _ _ n in subst (λ x. Shrinking V E x (i + 1)) (sym e) (shrinking_past V law E left i n h))
       (cases_Bool (has i left))
 

@@ -1,4 +1,6 @@
 // Scopes of a criterion, and the searches for their cores, for every criterion.
+#![tactic(auto)]
+
 mod listing;
 mod scope;
 mod scoping;

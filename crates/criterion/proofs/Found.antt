@@ -8,8 +8,8 @@ use Rattle.itemset.specs.Lists.{Rising}
 use Rattle.criterion.specs.Meaning.{Monotone}
 use Rattle.criterion.specs.Cores.{Core, none_below, is_core, cores}
 use Rattle.criterion.specs.Laws.{Hitting, Found, Unique, Counted, Shrunk, Needed, Branches}
-use Rattle.itemset.proofs.Members.{decides_within, subset_le, less_sub, in_less, in_one, meets-or-not, one_outside, outside_or}
-use Rattle.itemset.proofs.Rows.{Mem, has-from-mem, mem_from_has, mem_le, mem_same, rising_kept, rising_counting, mem_counting, mem_kept, kept_passes}
+use Rattle.itemset.proofs.Members.{decides_within, subset_le, less_sub, in_less, in_one, meets_or_not, one_outside, outside_or}
+use Rattle.itemset.proofs.Rows.{Mem, has_from_mem, mem_from_has, mem_le, mem_same, rising_kept, rising_counting, mem_counting, mem_kept, kept_passes}
 
 -- ---- the test of a core
 
@@ -87,16 +87,16 @@ module _ (V : ℕ → Bool) where
   cores_mem E K m = (decides_core E K).0 (kept_passes (is_core V E) (range_with_len 0 (E + 1)) K m)
 
   pub listed_is : (E : ℕ) (xs : List ℕ) → Rising xs → ((K : ℕ) → Contains xs K ↔ Core V E K) → xs ≡ cores V E
-  listed_is E xs r h = mem_same xs (cores V E) r (cores_rise E) (λ K m. mem_cores E K ((h K).0 (has-from-mem K xs m))) (λ K m. mem_from_has K xs ((h K).1 (cores_mem E K m)))
+  listed_is E xs r h = mem_same xs (cores V E) r (cores_rise E) (λ K m. mem_cores E K ((h K).0 (has_from_mem K xs m))) (λ K m. mem_from_has K xs ((h K).1 (cores_mem E K m)))
 
   pub listed_le : (E : ℕ) (xs : List ℕ) → Rising xs → ((K : ℕ) → Contains xs K → Core V E K) → length xs ≤ length (cores V E)
-  listed_le E xs r h = mem_le xs (cores V E) r (cores_rise E) (λ K m. mem_cores E K (h K (has-from-mem K xs m)))
+  listed_le E xs r h = mem_le xs (cores V E) r (cores_rise E) (λ K m. mem_cores E K (h K (has_from_mem K xs m)))
 
   -- ---- what hits every core
 
   module _ (law : Monotone V) where
     pub no_hits : (E D : ℕ) → V (less E D) ≡ false → (K : ℕ) → Core V E K → Meets K D
-    no_hits E D f K c = ⊎_elim (λ m. m) (λ apart. absurd (both_ways (V (less E D)) f (law K (less E D) (λ i p. (in_less i E D).1 (c.inside i p, λ q. apart (i, p, q))) c.gets))) (meets-or-not K D)
+    no_hits E D f K c = ⊎_elim (λ m. m) (λ apart. absurd (both_ways (V (less E D)) f (law K (less E D) (λ i p. (in_less i E D).1 (c.inside i p, λ q. apart (i, p, q))) c.gets))) (meets_or_not K D)
 
     pub hits_no : (E D : ℕ) → ((K : ℕ) → Core V E K → Meets K D) → V (less E D) ≡ false
     hits_no E D h = ⊎_elim (λ t. absurd (contra (a_core (less E D) t))) (λ f. f) (cases_Bool (V (less E D)))
@@ -116,7 +116,7 @@ pub found : Found
 found V E t = a_core V E t
 
 pub unique : Unique
-unique V E = (cores_rise V E, λ K. (λ h. cores_mem V E K (mem_from_has K (cores V E) h), λ c. has-from-mem K (cores V E) (mem_cores V E K c)), λ xs r h. listed_is V E xs r h)
+unique V E = (cores_rise V E, λ K. (λ h. cores_mem V E K (mem_from_has K (cores V E) h), λ c. has_from_mem K (cores V E) (mem_cores V E K c)), λ xs r h. listed_is V E xs r h)
 
 pub counted : Counted
 counted V E xs r h = listed_le V E xs r h

@@ -7,7 +7,7 @@ use Rattle.itemset.specs.Sets.{full, within}
 use Rattle.itemset.proofs.Members.{decides_within}
 use Rattle.criterion.specs.declared.remembered.Remembered.{Remembered}
 use Rattle.criterion.specs.Meaning.{Lawful, Meaning, Monotone}
-use Rattle.criterion.specs.Recall.{any, says_yes, says-no, recall, grown}
+use Rattle.criterion.specs.Recall.{any, says_yes, says_no, recall, grown}
 use Rattle.criterion.specs.Over.{alike, agrees, recalling}
 
 alike_same : (a b : Bool) → alike a b ≡ true → a ≡ b
@@ -33,7 +33,7 @@ module _ (V : ℕ → Bool) (law : Monotone V) (s : ℕ) where
   no_within true e t w f = sym (law s t ((decides_within s t).0 w) e) ∙ f
   no_within false e t w f = refl
 
-  no_right : (es : List Remembered) → agrees V es ≡ true → any (says-no s) es ≡ true → V s ≡ false
+  no_right : (es : List Remembered) → agrees V es ≡ true → any (says_no s) es ≡ true → V s ≡ false
   no_right [] a h = absurd (true≢false (sym h))
   no_right (e ∷ es) a h =
       let p = and_parts (alike (V e.set) e.verdict) (agrees V es) a in
@@ -41,7 +41,7 @@ module _ (V : ℕ → Bool) (law : Monotone V) (s : ℕ) where
       (λ here. let k = and_parts (not e.verdict) (within s e.set) here in
       no_within (V s) refl e.set k.1 (alike_same (V e.set) e.verdict p.0 ∙ not-true e.verdict k.0))
       (λ there. no_right es p.1 there)
-      (or_cases (says-no s e) (any (says-no s) es) h)
+      (or_cases (says_no s e) (any (says_no s) es) h)
 
   told : (y n b : Bool) → (y ≡ true → V s ≡ true) → (n ≡ true → V s ≡ false) → ◌≡◌ {A = Option Bool} (cond y (Some true) (cond n (Some false) None)) (Some b) → b ≡ V s
   told true n b hy hn e = let p : b ≡ true = cc in p ∙ sym (hy refl)
@@ -49,7 +49,7 @@ module _ (V : ℕ → Bool) (law : Monotone V) (s : ℕ) where
   told false false b hy hn e = cc
 
   pub recall_right : (es : List Remembered) (b : Bool) → agrees V es ≡ true → recall es s ≡ Some b → b ≡ V s
-  recall_right es b a e = told (any (says_yes s) es) (any (says-no s) es) b (yes_right es a) (no_right es a) e
+  recall_right es b a e = told (any (says_yes s) es) (any (says_no s) es) b (yes_right es a) (no_right es a) e
 
 -- one entry more
 pub agrees_push : (V : ℕ → Bool) (es : List Remembered) (e : Remembered) → V e.set ≡ e.verdict → agrees V (es ++ (e ∷ [])) ≡ agrees V es

@@ -8,8 +8,8 @@ abbrev pub says_yes : ℕ → Remembered → Bool
 says_yes s e = e.verdict && within e.set s
 
 -- s lies within a remembered no
-abbrev pub says-no : ℕ → Remembered → Bool
-says-no s e = not e.verdict && within s e.set
+abbrev pub says_no : ℕ → Remembered → Bool
+says_no s e = not e.verdict && within s e.set
 
 -- some entry passes a test
 abbrev pub any : (Remembered → Bool) → List Remembered → Bool
@@ -18,7 +18,7 @@ any p (e ∷ es) = p e || any p es
 
 -- what the row says of s: yes by a yes-set within s; failing that, no by a no-set around s
 abbrev pub recall : List Remembered → ℕ → Option Bool
-recall es s = cond (any (says_yes s) es) (Some true) (cond (any (says-no s) es) (Some false) None)
+recall es s = cond (any (says_yes s) es) (Some true) (cond (any (says_no s) es) (Some false) None)
 
 -- one entry more where nothing was recalled and fewer than 64 are held
 abbrev pub grown : Option Bool → List Remembered → Remembered → List Remembered

@@ -33,5 +33,5 @@ pub trait Criterion {
 pub trait GroupedCriterion: Criterion {
     // 0, 1 or 2, and 2 for an item number from n upward.
     fn group(&self, item: u32) -> u32
-        ensures tells_the_group { result ≡ (meaning self.now).group item };
+        ensures tells_the_group { result ≡ (Self.meaning self.now).group item };
 }

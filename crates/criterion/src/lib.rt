@@ -1,4 +1,6 @@
 // Criteria over sets of items, their cores, and criteria made from criteria.
+#![tactic(auto)]
+
 ghost use Rattle.criterion.specs.Examples.{Computed};
 ghost use Rattle.criterion.specs.Laws.{Branches, Counted, Found, Hitting, Needed, Shrunk, Unique};
 

@@ -1,8 +1,8 @@
 // A memory of verdicts over any criterion.
 ghost use Rattle.std.specs.Prelude.{◌≡◌, ◌%◌, ◌^◌, ◌≤◌, Bool, true, [], length, Some, None};
 ghost use Rattle.criterion.specs.Held.{remembering, row};
-ghost use Rattle.criterion.specs.Recall.{any, grown, learned, recall as recalled, says-no, says_yes};
-ghost use Rattle.std.proofs.Common.{rules, arith};
+ghost use Rattle.criterion.specs.Recall.{any, grown, learned, recall as recalled, says_no, says_yes};
+ghost use Rattle.std.proofs.Common.{rules};
 
 use crate::criterion::{Criterion, GroupedCriterion};
 use crate::held::Memory;
@@ -19,7 +19,7 @@ impl Remembered {
 
     // A no for a set within this one.
     fn is_no_for(&self, set: u32) -> bool
-        ensures { result ≡ says-no set self.now }
+        ensures { result ≡ says_no set self.now }
     {
         !self.verdict && set.within(self.set)
     }
@@ -37,7 +37,7 @@ fn any_yes(entries: &[Remembered], set: u32) -> bool
 }
 
 fn any_no(entries: &[Remembered], set: u32) -> bool
-    ensures { result ≡ any (says-no set) entries.now }
+    ensures { result ≡ any (says_no set) entries.now }
 {
     for entry in entries {
         if entry.is_no_for(set) {
@@ -117,7 +117,7 @@ impl<C: Criterion> Criterion for Memory<C> {
 
     ghost meaning = { remembering C.Criterion.meaning };
 
-    ghost lawful = { first_of (Prim.search rules, Prim.grind (arith, Self.row.coded.inj)) };
+    ghost lawful = { Prim.search rules };
 
     fn most() -> u32 {
         C::most()

@@ -1,4 +1,6 @@
 // Inquiries over any criterion: a scope and its calls, and the law over runs of calls.
+#![tactic(auto)]
+
 mod calls;
 mod guard;
 mod inquiry;

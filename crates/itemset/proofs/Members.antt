@@ -173,8 +173,8 @@ some_member a ne = go a a (le_refl a) ne
         (λ even. let h : (i : ℕ) × (i ∈ (a / 2)) = go f (a / 2) (half_le p) (λ z. ne (omega arith)) in (suc h.0, ap (λ (x : ℕ). x % 2) (shr_half a h.0) ∙ h.1))
         (in_or_out 0 a)
 
-pub meets-or-not : (a b : ℕ) → Meets a b ⊎ (Meets a b → ⊥)
-meets-or-not a b =
+pub meets_or_not : (a b : ℕ) → Meets a b ⊎ (Meets a b → ⊥)
+meets_or_not a b =
     ⊎_elim
     (λ e. inr (λ m. none_in m.0 (subst (λ (x : ℕ). m.0 ∈ x) e ((in_and m.0 a b).1 (m.1, m.2)))))
     (λ ne. let h = some_member (bit_and a b) ne in let p = (in_and h.0 a b).0 h.1 in inl (h.0, p.0, p.1))

@@ -2,6 +2,7 @@
 use Rattle.std.proofs.Common.{◌≡◌, ℕ, zero, suc, ◌+◌, ◌<◌, ◌≤◌, Bool, true, false, cond, ◌⊎◌, ◌↔◌, List, [], ◌∷◌, length, get_or, All, Contains, filter, sym, refl, ap, ◌∙◌, subst, ap₂, inl, inr, ⊎_elim, suc-le-suc, zero-le, le_of_suc-le-suc, arith}
 use Rattle.std.specs.List.{range_with_len}
 use Rattle.std.proofs.lemmas.List.{get_or_default}
+use Rattle.std.proofs.lemmas.List.Elements.{All-nil, All-cons, All-head, All-tail}
 use Rattle.std.proofs.lemmas.Bool.{cases_eq}
 use Rattle.itemset.specs.Lists.{Rising}
 use Rattle.itemset.specs.Laws.{RisingLe, RisingSame}
@@ -12,23 +13,23 @@ abbrev pub Mem : ℕ → List ℕ → Type 0
 Mem x [] = ⊥
 Mem x (y ∷ ys) = (x ≡ y) ⊎ Mem x ys
 
-pub has-from-mem : (x : ℕ) (xs : List ℕ) → Mem x xs → Contains xs x
-has-from-mem x [] m = absurd m
-has-from-mem x (y ∷ ys) (inl e) = (0, suc-le-suc zero-le, λ d. sym e)
-has-from-mem x (y ∷ ys) (inr m) = let h = has-from-mem x ys m in (suc h.0, suc-le-suc h.1, λ d. h.2 d)
+pub has_from_mem : (x : ℕ) (xs : List ℕ) → Mem x xs → Contains xs x
+has_from_mem x [] m = absurd m
+has_from_mem x (y ∷ ys) (inl e) = (0, suc-le-suc zero-le, sym e)
+has_from_mem x (y ∷ ys) (inr m) = let h = has_from_mem x ys m in (suc h.0, suc-le-suc h.1, h.2)
 
 pub mem_from_has : (x : ℕ) (xs : List ℕ) → Contains xs x → Mem x xs
 mem_from_has x [] h = absurd (omega (arith, h.1))
-mem_from_has x (y ∷ ys) h = go (mem_from_has x ys) h.0 h.1 (h.2 0)
+mem_from_has x (y ∷ ys) h = go (mem_from_has x ys) h.0 h.1 h.2
   where
-    go : (Contains ys x → Mem x ys) → (k : ℕ) → k < suc (length ys) → get_or (y ∷ ys) k 0 ≡ x → Mem x (y ∷ ys)
+    go : (Contains ys x → Mem x ys) → (k : ℕ) → k < suc (length ys) → get_or (y ∷ ys) k x ≡ x → Mem x (y ∷ ys)
     go rest zero p e = inl (sym e)
-    go rest (suc k) p e = inr (rest (k, le_of_suc-le-suc p, λ d. get_or_default ys k d 0 (le_of_suc-le-suc p) ∙ e))
+    go rest (suc k) p e = inr (rest (k, le_of_suc-le-suc p, e))
 
 pub all_mem : (P : ℕ → Type 0) (xs : List ℕ) (x : ℕ) → All P xs → Mem x xs → P x
 all_mem P [] x a m = absurd m
-all_mem P (y ∷ ys) x a (inl e) = subst P (sym e) a.0
-all_mem P (y ∷ ys) x a (inr m) = all_mem P ys x a.1 m
+all_mem P (y ∷ ys) x a (inl e) = subst P (sym e) (All-head P y ys a)
+all_mem P (y ∷ ys) x a (inr m) = all_mem P ys x (All-tail P y ys a) m
 
 -- ---- two rising lists
 
@@ -67,15 +68,14 @@ mem_same (x ∷ xs) (y ∷ ys) rx ry f g =
 -- ---- what a filter keeps of the numbers in turn
 
 all_at : (P Q : ℕ → Type 0) → ((x : ℕ) → P x → Q x) → (xs : List ℕ) → All P xs → All Q xs
-all_at P Q f [] a = tt
-all_at P Q f (x ∷ xs) a = (f x a.0, all_at P Q f xs a.1)
+all_at P Q f xs a = λ k d lt. f (get_or xs k d) (a k d lt)
 
 all_kept : (p : ℕ → Bool) (P : ℕ → Type 0) (xs : List ℕ) → All P xs → All P (filter p xs)
-all_kept p P [] a = tt
-all_kept p P (x ∷ xs) a = go (p x) (all_kept p P xs a.1)
+all_kept p P [] a = All-nil P
+all_kept p P (x ∷ xs) a = go (p x) (all_kept p P xs (All-tail P x xs a))
   where
     go : (b : Bool) → All P (filter p xs) → All P (cond b (x ∷ filter p xs) (filter p xs))
-    go true r = (a.0, r)
+    go true r = All-cons P x (filter p xs) (All-head P x xs a) r
     go false r = r
 
 pub rising_kept : (p : ℕ → Bool) (xs : List ℕ) → Rising xs → Rising (filter p xs)
@@ -87,8 +87,8 @@ rising_kept p (x ∷ xs) r = go (p x) (rising_kept p xs r.1)
     go false k = k
 
 from_on : (a b n : ℕ) → a ≤ b → All (λ y. a ≤ y) (range_with_len b n)
-from_on a b zero h = tt
-from_on a b (suc n) h = (h, from_on a (b + 1) n (omega arith))
+from_on a b zero h = All-nil (λ y. a ≤ y)
+from_on a b (suc n) h = All-cons (λ y. a ≤ y) b (range_with_len (b + 1) n) h (from_on a (b + 1) n (omega arith))
 
 pub rising_counting : (a n : ℕ) → Rising (range_with_len a n)
 rising_counting a zero = tt
@@ -123,7 +123,7 @@ kept_passes p (y ∷ ys) x m = go (p y) refl (kept_passes p ys x) m
 -- ---- the laws, of what `Has` says
 
 pub rising_le : RisingLe
-rising_le xs ys p q f = mem_le xs ys p q (λ x m. mem_from_has x ys (f x (has-from-mem x xs m)))
+rising_le xs ys p q f = mem_le xs ys p q (λ x m. mem_from_has x ys (f x (has_from_mem x xs m)))
 
 pub rising_same : RisingSame
-rising_same xs ys p q f = mem_same xs ys p q (λ x m. mem_from_has x ys ((f x).0 (has-from-mem x xs m))) (λ y m. mem_from_has y xs ((f y).1 (has-from-mem y ys m)))
+rising_same xs ys p q f = mem_same xs ys p q (λ x m. mem_from_has x ys ((f x).0 (has_from_mem x xs m))) (λ y m. mem_from_has y xs ((f y).1 (has_from_mem y ys m)))

@@ -1,4 +1,6 @@
 // Sets of small numbers in the bits of a word: what holds of them, and the few operations that the code above needs.
+#![tactic(auto)]
+
 ghost use Rattle.itemset.specs.Laws.{AndNot, Below, EveryRight, InAnd, InCollect, InFull, InLess, InLow, InOne, InOr, LowestIs, OnesAre, RisingLe, RisingSame, SameMembers, SomeRight, SubsetLe, TestsRight};
 
 mod word;

@@ -29,12 +29,12 @@ abbrev pub HasClosedPart : Plan → ℕ → Type 0
 HasClosedPart p set = (part : ℕ) × ClosedPart p set part
 
 -- no body is touched by exactly one joint of the part
-abbrev pub no-loose-body : Plan → ℕ → Bool
-no-loose-body p part = every p.bodies (λ b. not (touching p part b == 1))
+abbrev pub no_loose_body : Plan → ℕ → Bool
+no_loose_body p part = every p.bodies (λ b. not (touching p part b == 1))
 
 -- the same by trying every part
 unfoldable pub has_closed_part : Plan → ℕ → Bool
-has_closed_part p set = some (2 ^ length p.joints) (λ part. not (part == 0) && (within part set && no-loose-body p part))
+has_closed_part p set = some (2 ^ length p.joints) (λ part. not (part == 0) && (within part set && no_loose_body p part))
 
 -- joint sets as a criterion: the joints are the items, a joint's class is its group, and the order never fails
 abbrev pub joint_sets : Plan → Meaning

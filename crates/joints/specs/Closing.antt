@@ -10,7 +10,7 @@ use Rattle.itemset.proofs.Counts.{count_up, count_pos, count_some, some_right, e
 use Rattle.criterion.specs.Meaning.{Lawful}
 use Rattle.base.proofs.Tests.{all_at}
 use Rattle.joints.specs.Plans.{Joint, Plan, links, sound, joint_at, no_joint}
-use Rattle.joints.specs.Closed.{touches, meets, touching, ClosedPart, no-loose-body, has_closed_part, joint_sets, Stays}
+use Rattle.joints.specs.Closed.{touches, meets, touching, ClosedPart, no_loose_body, has_closed_part, joint_sets, Stays}
 use Rattle.joints.specs.Laws.{SearchRight, StripRight, SetsLawful}
 use Rattle.joints.specs.Words.{Links, links_parts}
 use Rattle.joints.specs.Trips.{sound_parts}
@@ -34,8 +34,8 @@ touching_some p a b h =
     let q = and_parts (has r.0 a) (touches (joint_at p r.0) b) r.2 in
     (r.0, r.1, (decides_has r.0 a).0 q.0, q.1)
 
-touches-first : (j : Joint) → touches j j.first ≡ true
-touches-first j = or_left (j.first == j.first) (j.second == j.first) (eq-eqb j.first j.first refl)
+touches_first : (j : Joint) → touches j j.first ≡ true
+touches_first j = or_left (j.first == j.first) (j.second == j.first) (eq-eqb j.first j.first refl)
 
 touches_second : (j : Joint) → touches j j.second ≡ true
 touches_second j = or_right (j.first == j.second) (j.second == j.second) (eq-eqb j.second j.second refl)
@@ -43,7 +43,7 @@ touches_second j = or_right (j.first == j.second) (j.second == j.second) (eq-eqb
 -- ---- the search through the parts
 
 test : Plan → ℕ → ℕ → Bool
-test p set part = not (part == 0) && (within part set && no-loose-body p part)
+test p set part = not (part == 0) && (within part set && no_loose_body p part)
 
 pub search_right : SearchRight
 unfolding has_closed_part test
@@ -56,8 +56,8 @@ search_right p set = (found, kept)
     found e =
         let r = (some_right (2 ^ length p.joints) (test p set)).0 e in
         let part = r.0 in
-        let a = and_parts (not (part == 0)) (within part set && no-loose-body p part) r.2 in
-        let b = and_parts (within part set) (no-loose-body p part) a.1 in (
+        let a = and_parts (not (part == 0)) (within part set && no_loose_body p part) r.2 in
+        let b = and_parts (within part set) (no_loose_body p part) a.1 in (
           part,
           record {
             joints = (below (length p.joints) part).0 r.1;
@@ -74,8 +74,8 @@ search_right p set = (found, kept)
         (some_right (2 ^ length p.joints) (test p set)).1 (
           part,
           (below (length p.joints) part).1 c.joints,
-          and_from (not (part == 0)) (within part set && no-loose-body p part) (not_from_false (part == 0) (ne_eqb part 0 c.filled))
-              (and_from (within part set) (no-loose-body p part) ((decides_within part set).1 c.inside)
+          and_from (not (part == 0)) (within part set && no_loose_body p part) (not_from_false (part == 0) (ne_eqb part 0 c.filled))
+              (and_from (within part set) (no_loose_body p part) ((decides_within part set).1 c.inside)
               ((every_right p.bodies (λ b. not (touching p part b == 1))).1 (λ k l. not_from_false (touching p part k == 1) (ne_eqb (touching p part k) 1 (c.closed k l))))),
         )
 
@@ -107,7 +107,7 @@ strip_right p sound set rest f =
         record {
           joint = c.joints i m;
           member = c.inside i m;
-          first = twice part c i (joint_at p i).first m k.low (touches-first (joint_at p i));
+          first = twice part c i (joint_at p i).first m k.low (touches_first (joint_at p i));
           second = twice part c i (joint_at p i).second m k.high (touches_second (joint_at p i));
         }
 

@@ -1,4 +1,6 @@
 // Joint plans, their sheets, and sets of joints as a criterion.
+#![tactic(auto)]
+
 ghost use Rattle.joints.specs.Laws.{SearchRight, SetsLawful, StripRight, Worked};
 ghost use Rattle.joints.specs.RoundTrip.{AdmissionOfSheet, LeftOver, RefusedWhere, SheetOfAdmitted};
 

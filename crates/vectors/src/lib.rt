@@ -1,4 +1,6 @@
 // Tests of the library on examples and tables, and what they need.
+#![tactic(auto)]
+
 mod always;
 mod counting;
 

@@ -8,4 +8,4 @@ use Rattle.console.proofs.example_responses.Goals as goal
 
 pub returns : goal.returns
 unfolding response listed shared members cores has_closed_part touching digits
-returns c = record { examples-compute = (refl, refl, refl, refl, refl, refl) }
+returns c = record { examples_compute = (refl, refl, refl, refl, refl, refl) }

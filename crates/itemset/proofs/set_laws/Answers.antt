@@ -14,9 +14,9 @@ returns c = record {
   in_full = in_full;
   in_low = in_low;
   in_collect = in_collect;
-  bits-bound-members = below;
-  subset-is-no-greater = subset_le;
-  and-not-is-less = and_not;
-  trailing-zeros-is-lowest = lowest_is;
-  ones-count-members = ones_are;
+  bits_bound_members = below;
+  subset_is_no_greater = subset_le;
+  and_not_is_less = and_not;
+  trailing_zeros_is_lowest = lowest_is;
+  ones_count_members = ones_are;
 }

@@ -6,4 +6,4 @@ use Rattle.joints.proofs.closed_laws.Goals as goal
 
 pub returns : goal.returns
 unfolding has_closed_part touching cores
-returns c = record { search-is-right = search_right; stripping-keeps-the-verdict = strip_right; joint-sets-keep-the-law = sets_lawful; worked-plan-computes = (refl, refl, refl) }
+returns c = record { search_is_right = search_right; stripping_keeps_the_verdict = strip_right; joint_sets_keep_the_law = sets_lawful; worked_plan_computes = (refl, refl, refl) }

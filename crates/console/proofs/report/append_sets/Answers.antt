@@ -7,7 +7,7 @@ use Rattle.console.proofs.report.append_sets.Goals as goal
 
 pub returns : goal.returns
 returns c =
-    lines_all (vec_items c.args.text.now) (vec_items c.append.new.text) (vec_items c.append-2.new.text) (vec_items c.append-cores.new.text) (items_line c.args.count) (common_line (members 32 c.args.common)) (flat_map core_line c.args.cores.now)
-    (c.append.ensures.text ∙ ap (λ xs. vec_items c.args.text.now ++ xs) c.items.ensures.is-the-items-line)
-    (c.append-2.ensures.text ∙ ap (λ xs. vec_items c.append.new.text ++ xs) c.common.ensures.is-the-common-line)
-    c.append-cores.ensures
+    lines_all (vec_items c.args.text.now) (vec_items c.append.new.text) (vec_items c.append-2.new.text) (vec_items c.append_cores.new.text) (items_line c.args.count) (common_line (members 32 c.args.common)) (flat_map core_line c.args.cores.now)
+    (c.append.ensures.text ∙ ap (λ xs. vec_items c.args.text.now ++ xs) c.items.ensures.is_the_items_line)
+    (c.append-2.ensures.text ∙ ap (λ xs. vec_items c.append.new.text ++ xs) c.common.ensures.is_the_common_line)
+    c.append_cores.ensures

@@ -2,7 +2,7 @@ use Rattle.std.proofs.Common.{◌≡◌, ◌+◌, ◌<◌, ◌≤◌, get_or, ta
 use Rattle.itemset.specs.Sets.{◌⊆◌}
 use Rattle.itemset.proofs.Members.{sub_of_and, and_of_sub}
 use Rattle.cores.specs.Rows.{spare}
-use Rattle.cores.proofs.Picking.{Best, best_none, best_past, best_here, best_stays, fewest_zero, best_all, spare-is}
+use Rattle.cores.proofs.Picking.{Best, best_none, best_past, best_here, best_stays, fewest_zero, best_all, spare_is}
 use Rattle.cores.proofs.listing.pick.Goals as goal
 use Rattle.cores.proofs.listing.pick.Goals.{then-spare-fewest, else-spare-fewest}
 
@@ -19,7 +19,7 @@ returns-then-spare-eq0 c =
     let row = c.args.row.now in
     let i = c.loop-set.set-index in
     let s : get_or row i 0 ⊆ c.args.within = sub_of_and _ _ c.if-set-within.false in
-    fewest_zero row c.args.within c.args.held i c.loop-set-test.true s (sym (spare-is c.args.within c.args.held (get_or row i 0) c.ranges.within.fits c.ranges.held.fits s) ∙ c.if-spare-eq0.true)
+    fewest_zero row c.args.within c.args.held i c.loop-set-test.true s (sym (spare_is c.args.within c.args.held (get_or row i 0) c.ranges.within.fits c.ranges.held.fits s) ∙ c.if-spare-eq0.true)
 
 pub loop-set-preserved : goal.loop-set-preserved
 loop-set-preserved c =
@@ -29,7 +29,7 @@ loop-set-preserved c =
     let i = c.loop-set.set-index in
     let x = get_or row i 0 in
     let s : x ⊆ E = sub_of_and _ _ c.if-set-within.false in
-    let is = spare-is E K x c.ranges.within.fits c.ranges.held.fits s in
+    let is = spare_is E K x c.ranges.within.fits c.ranges.held.fits s in
     elim c.if-spare-fewest.branch [
       | then-spare-fewest w ↦
           subst (λ b. Best (take (i + 1) row) E K b c.if-spare-fewest.fewest) (sym w.best-is)

@@ -25,8 +25,8 @@ returns-then-count-places g c =
     let told = c.in-Ok.ensures in
     record {
       row = tt;
-      answer = λ o S s all. (refl, crowded V S c.args.scope.set c.args.scope.items c.args.count c.in-Ok.core c.args.places.now c.requires c.in-default.ensures (told.answers-a-core o).1 s all (omega (arith, c.if-count-places.true, c.requires.high)));
-      same = told.keeps-the-meaning;
+      answer = λ o S s all. (refl, crowded V S c.args.scope.set c.args.scope.items c.args.count c.in-Ok.core c.args.places.now c.requires c.in_default.ensures (told.answers_a_core o).1 s all (omega (arith, c.if-count-places.true, c.requires.high)));
+      same = told.keeps_the_meaning;
     }
 
 pub returns-else-count-places : goal.returns-else-count-places
@@ -43,13 +43,13 @@ returns-else-count-places g c =
     let is = c.insert.ensures in
     record {
       row = (
-        grown_by n count C xs ys c.requires room is (omega (arith, subset_le C E told.stays-within-the-scope, c.args.scope.ok.1)) (is_new E C (take count xs) told.stays-within-the-scope c.in-default.ensures),
-        told.stays-within-the-scope,
+        grown_by n count C xs ys c.requires room is (omega (arith, subset_le C E told.stays_within_the_scope, c.args.scope.ok.1)) (is_new E C (take count xs) told.stays_within_the_scope c.in_default.ensures),
+        told.stays_within_the_scope,
         has_it n count C xs ys c.requires room is,
       );
       answer = λ o S s all. (
-        (told.answers-a-core o).1,
-        subst (All (Core V S)) (sym (front_is n count C xs ys c.requires room is)) (all_placed (Core V S) C (take count xs) (core_wider V S E C s (told.answers-a-core o).1) all),
+        (told.answers_a_core o).1,
+        subst (All (Core V S)) (sym (front_is n count C xs ys c.requires room is)) (all_placed (Core V S) C (take count xs) (core_wider V S E C s (told.answers_a_core o).1) all),
       );
-      same = told.keeps-the-meaning;
+      same = told.keeps_the_meaning;
     }

@@ -3,7 +3,7 @@ use Rattle.cores.proofs.Judged.{judged}
 use Rattle.cores.proofs.Shrinking.{refused_out}
 use Rattle.cores.proofs.Sifting.{Sifted, sift_out, sift_can_go, sift_needed, sifted_all}
 use Rattle.cores.proofs.search.common_of.Goals as goal
-use Rattle.cores.proofs.search.common_of.Goals.{then-is-ok+then-not-check-2, then-is-ok+else-not-check-2, else-is-ok}
+use Rattle.cores.proofs.search.common_of.Goals.{then-is_ok+then-not-check-2, then-is_ok+else-not-check-2, else-is_ok}
 
 pub loop-item-preserved : goal.loop-item-preserved
 loop-item-preserved g c =
@@ -17,21 +17,21 @@ loop-item-preserved g c =
     let w₀ = c.loop-item.common in
     let fewer = c.retire.new.self.set in
     let told = c.retire.ensures in
-    elim c.if-is-ok.branch [
-      | then-is-ok+then-not-check-2 w ↦ (
-        ap meaning w.criterion-is ∙ w.check-then-is-ok.ensures.keeps-the-meaning ∙ inv.0,
+    elim c.if-is_ok.branch [
+      | then-is_ok+then-not-check-2 w ↦ (
+        ap meaning w.criterion-is ∙ w.check-then-is_ok.ensures.keeps_the_meaning ∙ inv.0,
         λ o t. subst (λ x. Sifted m.verdict s.set x (i + 1)) (sym w.common-is)
-            (sift_needed m.verdict law s.set w₀ i fewer t (inv.1 o t) (omega (arith, c.loop-item-test.true, s.ok.0)) told.takes-it-out (judged m at fewer w.check-then-is-ok.result _ inv.0 w.check-then-is-ok.ensures.answers-the-verdict w.if-not-check-2.true o)),
+            (sift_needed m.verdict law s.set w₀ i fewer t (inv.1 o t) (omega (arith, c.loop-item-test.true, s.ok.0)) told.takes_it_out (judged m at fewer w.check-then-is_ok.result _ inv.0 w.check-then-is_ok.ensures.answers_the_verdict w.if-not-check-2.true o)),
       )
-      | then-is-ok+else-not-check-2 w ↦ (
-        ap meaning w.criterion-is ∙ w.check-then-is-ok.ensures.keeps-the-meaning ∙ inv.0,
+      | then-is_ok+else-not-check-2 w ↦ (
+        ap meaning w.criterion-is ∙ w.check-then-is_ok.ensures.keeps_the_meaning ∙ inv.0,
         λ o t. subst (λ x. Sifted m.verdict s.set x (i + 1)) (sym w.common-is)
-            (sift_can_go m.verdict law s.set w₀ i fewer t (inv.1 o t) told.takes-it-out (judged m at fewer w.check-then-is-ok.result _ inv.0 w.check-then-is-ok.ensures.answers-the-verdict w.if-not-check-2.false o)),
+            (sift_can_go m.verdict law s.set w₀ i fewer t (inv.1 o t) told.takes_it_out (judged m at fewer w.check-then-is_ok.result _ inv.0 w.check-then-is_ok.ensures.answers_the_verdict w.if-not-check-2.false o)),
       )
-      | else-is-ok w ↦ (
+      | else-is_ok w ↦ (
         ap meaning w.criterion-is ∙ inv.0,
         λ o t. subst (λ x. Sifted m.verdict s.set x (i + 1)) (sym w.common-is)
-            (sift_out m.verdict law s.set w₀ i fewer t (inv.1 o t) (refused_out s.items s.set i c.retire.result told.answers-the-size c.loop-item-test.true (sym c.is-ok.ensures.value ∙ w.if-is-ok.false))),
+            (sift_out m.verdict law s.set w₀ i fewer t (inv.1 o t) (refused_out s.items s.set i c.retire.result told.answers_the_size c.loop-item-test.true (sym c.is_ok.ensures.value ∙ w.if-is_ok.false))),
       )
     ]
 
@@ -42,13 +42,13 @@ returns g c =
     let m₁ = meaning c.check.new.self in
     let inv = c.loop-item.invariant in
     let s = c.args.scope in
-    let first = c.check.ensures.keeps-the-meaning in
+    let first = c.check.ensures.keeps_the_meaning in
     record {
-      answers-the-common-items = λ o.
-          let t = judged m m s.set c.check.result _ refl c.check.ensures.answers-the-verdict c.if-not-check.false o in (
+      answers_the_common_items = λ o.
+          let t = judged m m s.set c.check.result _ refl c.check.ensures.answers_the_verdict c.if-not-check.false o in (
             t,
             sifted_all m.verdict s.set c.loop-item.common s.items c.loop-item.item t s.ok.1 c.loop-item-test.false
                 (subst (λ x. Sifted x.verdict s.set c.loop-item.common c.loop-item.item) first (inv.1 (ap (λ x. x.order) first ∙ o) (ap (λ x. x.verdict s.set) first ∙ t))),
           );
-      keeps-the-meaning = inv.0 ∙ first;
+      keeps_the_meaning = inv.0 ∙ first;
     }

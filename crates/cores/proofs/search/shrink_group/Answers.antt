@@ -4,7 +4,7 @@ use Rattle.cores.proofs.Judged.{judged}
 use Rattle.cores.proofs.Shrinking.{refused_out}
 use Rattle.cores.proofs.Pruning.{Pruning, pruning_all, turn_other, turn_out, turn_goes, turn_stays}
 use Rattle.cores.proofs.search.shrink_group.Goals as goal
-use Rattle.cores.proofs.search.shrink_group.Goals.{then-group-rank+then-is-ok+then-check, then-group-rank+then-is-ok+else-check, then-group-rank+else-is-ok, else-group-rank}
+use Rattle.cores.proofs.search.shrink_group.Goals.{then-group-rank+then-is_ok+then-check, then-group-rank+then-is_ok+else-check, then-group-rank+else-is_ok, else-group-rank}
 
 pub loop-item-preserved : goal.loop-item-preserved
 loop-item-preserved g c =
@@ -17,25 +17,25 @@ loop-item-preserved g c =
     let rank = c.args.rank in
     let left = c.loop-item.left in
     let i = c.loop-item.item in
-    let group = sym (ap (λ (x : Meaning). x.group i) inv.0) ∙ sym c.group.ensures.tells-the-group in
+    let group = sym (ap (λ (x : Meaning). x.group i) inv.0) ∙ sym c.group.ensures.tells_the_group in
     elim c.if-group-rank.branch [
-      | then-group-rank+then-is-ok+then-check w ↦ (
-        ap meaning w.criterion-is ∙ w.check.ensures.keeps-the-meaning ∙ inv.0,
-        ap (λ x. x.items) w.left-is ∙ w.retire.ensures.keeps-the-items ∙ inv.1,
+      | then-group-rank+then-is_ok+then-check w ↦ (
+        ap meaning w.criterion-is ∙ w.check.ensures.keeps_the_meaning ∙ inv.0,
+        ap (λ x. x.items) w.left-is ∙ w.retire.ensures.keeps_the_items ∙ inv.1,
         λ o t. subst (λ x. Pruning m E rank x.set (i + 1)) (sym w.left-is)
-            (turn_goes m law E rank left.set i (inv.2 o t) _ w.retire.ensures.takes-it-out (group ∙ w.if-group-rank.true) (judged m at w.retire.new.self.set w.check.result _ inv.0 w.check.ensures.answers-the-verdict w.if-check.true o)),
+            (turn_goes m law E rank left.set i (inv.2 o t) _ w.retire.ensures.takes_it_out (group ∙ w.if-group-rank.true) (judged m at w.retire.new.self.set w.check.result _ inv.0 w.check.ensures.answers_the_verdict w.if-check.true o)),
       )
-      | then-group-rank+then-is-ok+else-check w ↦ (
-        ap meaning w.criterion-is ∙ w.check.ensures.keeps-the-meaning ∙ inv.0,
+      | then-group-rank+then-is_ok+else-check w ↦ (
+        ap meaning w.criterion-is ∙ w.check.ensures.keeps_the_meaning ∙ inv.0,
         ap (λ x. x.items) w.left-is ∙ inv.1,
         λ o t. subst (λ x. Pruning m E rank x.set (i + 1)) (sym w.left-is)
-            (turn_stays m law E rank left.set i (inv.2 o t) _ w.retire.ensures.takes-it-out (judged m at w.retire.new.self.set w.check.result _ inv.0 w.check.ensures.answers-the-verdict w.if-check.false o)),
+            (turn_stays m law E rank left.set i (inv.2 o t) _ w.retire.ensures.takes_it_out (judged m at w.retire.new.self.set w.check.result _ inv.0 w.check.ensures.answers_the_verdict w.if-check.false o)),
       )
-      | then-group-rank+else-is-ok w ↦ (
+      | then-group-rank+else-is_ok w ↦ (
         ap meaning w.criterion-is ∙ inv.0,
         ap (λ x. x.items) w.left-is ∙ inv.1,
         λ o t. subst (λ x. Pruning m E rank x.set (i + 1)) (sym w.left-is)
-            (turn_out m law E rank left.set i (inv.2 o t) (refused_out left.items left.set i w.retire.result w.retire.ensures.answers-the-size (omega (arith, inv.1, c.loop-item-test.true)) (sym w.is-ok.ensures.value ∙ w.if-is-ok.false))),
+            (turn_out m law E rank left.set i (inv.2 o t) (refused_out left.items left.set i w.retire.result w.retire.ensures.answers_the_size (omega (arith, inv.1, c.loop-item-test.true)) (sym w.is_ok.ensures.value ∙ w.if-is_ok.false))),
       )
       | else-group-rank w ↦ (
         ap meaning w.criterion-is ∙ inv.0,

@@ -1,12 +1,12 @@
-use Rattle.criterion.specs.Recall.{says-no}
+use Rattle.criterion.specs.Recall.{says_no}
 use Rattle.criterion.proofs.Recalled.{any_hit, any_miss, any_end}
 use Rattle.criterion.proofs.memory.any_no.Goals as goal
 
-pub returns-then-is-no-for : goal.returns-then-is-no-for
-returns-then-is-no-for c = any_hit (says-no c.args.set) c.args.entries.now c.loop-entry.entry-index _ c.loop-entry-test.true c.loop-entry.invariant c.if-is-no-for.ensures
+pub returns-then-is_no_for : goal.returns-then-is_no_for
+returns-then-is_no_for c = any_hit (says_no c.args.set) c.args.entries.now c.loop-entry.entry-index _ c.loop-entry-test.true c.loop-entry.invariant c.if-is_no_for.ensures
 
 pub loop-entry-preserved : goal.loop-entry-preserved
-loop-entry-preserved c = any_miss (says-no c.args.set) c.args.entries.now c.loop-entry.entry-index _ c.loop-entry-test.true c.loop-entry.invariant c.if-is-no-for.ensures
+loop-entry-preserved c = any_miss (says_no c.args.set) c.args.entries.now c.loop-entry.entry-index _ c.loop-entry-test.true c.loop-entry.invariant c.if-is_no_for.ensures
 
 pub returns : goal.returns
-returns c = any_end (says-no c.args.set) c.args.entries.now c.loop-entry.entry-index c.loop-entry-test.false c.loop-entry.invariant
+returns c = any_end (says_no c.args.set) c.args.entries.now c.loop-entry.entry-index c.loop-entry-test.false c.loop-entry.invariant

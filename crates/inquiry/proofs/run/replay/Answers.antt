@@ -16,24 +16,24 @@ loop-call-init g c =
     let xs = vec_items c.args.answers in
     let n = vec_len c.args.answers in
     let long : n ≡ length xs = omega (arith, c.args.answers.ok.0) in
-    let calls = into_iter_items c.into-iter-call-iterator.result in
-    let many : length calls ≡ vec_len c.args.calls = ap length c.into-iter-call-iterator.ensures.into-iter-gives.0 ∙ omega (arith, c.args.calls.ok.0) in (
+    let calls = into_iter_items c.into_iter-call-iterator.result in
+    let many : length calls ≡ vec_len c.args.calls = ap length c.into_iter-call-iterator.ensures.into_iter-gives.0 ∙ omega (arith, c.args.calls.ok.0) in (
       refl,
-      opened.counts-its-items ∙ ap (λ x. (meaning x).count) (sym opened.holds-the-criterion),
+      opened.counts_its_items ∙ ap (λ x. (meaning x).count) (sym opened.holds_the_criterion),
       omega (arith, many, c.capacity.ensures, c.len.ensures, c.len-2.ensures, c.if-capacity-len.false, c.args.answers.ok),
       omega arith,
       take_all n xs (omega (arith, long)),
       subst (λ as'. Going m calls [] calls as' c.open-inquiry.result.scope.set) (sym (drop_all n xs (omega (arith, long))))
-          (going_none m calls c.open-inquiry.result.scope.set (opened.has-every-item-in-scope ∙ ap (λ x. full (meaning x).count) (sym opened.holds-the-criterion))),
+          (going_none m calls c.open-inquiry.result.scope.set (opened.has_every_item_in_scope ∙ ap (λ x. full (meaning x).count) (sym opened.holds_the_criterion))),
     )
 
 pub loop-call-preserved : goal.loop-call-preserved
 loop-call-preserved g c =
     let inv = c.loop-call.invariant in
     let did = c.perform.ensures in
-    let pushed = c.push-reserved.ensures in
+    let pushed = c.push_reserved.ensures in
     let xs = vec_items c.loop-call.answers in
-    let ys = vec_items c.push-reserved.new.self in
+    let ys = vec_items c.push_reserved.new.self in
     let n = vec_len c.args.answers in
     let a = c.perform.result in
     let le : n ≤ length xs = omega (arith, inv.3, c.loop-call.answers.ok.0) in
@@ -58,14 +58,14 @@ returns g c =
     let ys = vec_items c.loop-call.answers in
     let long : n ≡ length xs = omega (arith, c.args.answers.ok.0) in
     let calls = vec_items c.args.calls in
-    let same : m₁ ≡ m = ap meaning c.open-inquiry.ensures.holds-the-criterion in
-    let becomes = c.into-iter-call-iterator.ensures.into-iter-gives.0 in
+    let same : m₁ ≡ m = ap meaning c.open-inquiry.ensures.holds_the_criterion in
+    let becomes = c.into_iter-call-iterator.ensures.into_iter-gives.0 in
     let end : into_iter_items c.loop-call.call-iterator ≡ [] = nil_from_length (into_iter_items c.loop-call.call-iterator) (omega (arith, c.in-None.ensures.steps.0, c.loop-call.call-iterator.rest.ok.0)) in
-    let closed : meaning c.close.result ≡ m₁ = ap meaning c.close.ensures.gives-it-back ∙ inv.0 in
-    let run : Replayed m₁ (meaning c.close.result) (into_iter_items c.into-iter-call-iterator.result) (drop n ys) =
-    going_all m₁ (into_iter_items c.into-iter-call-iterator.result) (meaning c.close.result) c.loop-call.yielded (into_iter_items c.loop-call.call-iterator) (drop n ys) c.loop-call.inquiry.scope.set closed inv.5 end in
+    let closed : meaning c.close.result ≡ m₁ = ap meaning c.close.ensures.gives_it_back ∙ inv.0 in
+    let run : Replayed m₁ (meaning c.close.result) (into_iter_items c.into_iter-call-iterator.result) (drop n ys) =
+    going_all m₁ (into_iter_items c.into_iter-call-iterator.result) (meaning c.close.result) c.loop-call.yielded (into_iter_items c.loop-call.call-iterator) (drop n ys) c.loop-call.inquiry.scope.set closed inv.5 end in
     record {
-      answers-every-call = record {
+      answers_every_call = record {
         fits = omega (arith, c.capacity.ensures, c.len.ensures, c.len-2.ensures, c.if-capacity-len.false, c.args.calls.ok.0);
         kept = subst (λ (k : ℕ). take k ys ≡ xs) long inv.4;
         run = subst (λ (k : ℕ). Replayed m (meaning c.close.result) calls (drop k ys)) long

@@ -17,33 +17,33 @@ loop-done-preserved g c =
     let start = c.args.self.now.at in
     let k = c.loop-done.done in
     let at = c.loop-done.self.at in
-    let w = c.in-ok-word.field-0 in
-    let e : part ws at ≡ got w c.word.new.self.at = ap (λ us. part us at) (sym c.loop-done.invariant.0) ∙ sym c.in-ok-word.ensures.reads-a-word in
+    let w = c.in_ok-word.field-0 in
+    let e : part ws at ≡ got w c.word.new.self.at = ap (λ us. part us at) (sym c.loop-done.invariant.0) ∙ sym c.in_ok-word.ensures.reads_a_word in
     let s = passing_step (g.R.WordRule.test c.args.rule.now) g.R.WordRule.code ws at c.word.new.self.at w e in
     let i = c.loop-done.invariant.1 in
     let j = s.1 in
     let l = s.2 in (
-      c.word.ensures.same-words ∙ c.loop-done.invariant.0,
+      c.word.ensures.same_words ∙ c.loop-done.invariant.0,
       omega arith,
       ap (λ xs. behind xs (many (part ws) (c.args.n - (k + 1)) c.word.new.self.at)) (slice_more ws start k w (omega arith) (s.0 ∙ ap (λ i. get_or ws i 0) i))
           ∙ sym (many_more (part ws) (take k (drop start ws)) w c.args.n k at c.word.new.self.at (omega arith) e)
           ∙ c.loop-done.invariant.2,
     )
 
-pub returns-in-err-word : goal.returns-in-err-word
-returns-in-err-word g c =
+pub returns-in_err-word : goal.returns-in_err-word
+returns-in_err-word g c =
     let ws = text c.args.self.now in
     let part : List ℕ → ℕ → Read ℕ = passing (g.R.WordRule.test c.args.rule.now) g.R.WordRule.code in
-    let f = c.in-err-word.field-0.0 in
+    let f = c.in_err-word.field-0.0 in
     record {
-      same-words = c.word.ensures.same-words ∙ c.loop-done.invariant.0;
-      keeps-the-rule = IfOk-from_err c.from-residual.result _ c.from-residual.ensures.0;
-      stays-before-a-refused-word = stays_break c.from-residual.result f c.word.new.self.at c.from-residual.ensures.1 c.in-err-word.ensures.stays-before-a-refused-word;
-      reads-so-many =
-          told_break _ c.from-residual.result f _ c.from-residual.ensures.1
+      same_words = c.word.ensures.same_words ∙ c.loop-done.invariant.0;
+      keeps_the_rule = IfOk-from_err c.from_residual.result _ c.from_residual.ensures.0;
+      stays_before_a_refused_word = stays_break c.from_residual.result f c.word.new.self.at c.from_residual.ensures.1 c.in_err-word.ensures.stays_before_a_refused_word;
+      reads_so_many =
+          told_break _ c.from_residual.result f _ c.from_residual.ensures.1
           ∙ sym (sym c.loop-done.invariant.2
           ∙ many_stop (part ws) (take c.loop-done.done (drop c.args.self.now.at ws)) c.args.n c.loop-done.done c.loop-done.self.at (number f) (index f) (omega arith)
-          (ap (λ us. part us c.loop-done.self.at) (sym c.loop-done.invariant.0) ∙ sym c.in-err-word.ensures.reads-a-word));
+          (ap (λ us. part us c.loop-done.self.at) (sym c.loop-done.invariant.0) ∙ sym c.in_err-word.ensures.reads_a_word));
     }
 
 pub returns : goal.returns
@@ -57,4 +57,4 @@ returns g c =
     let e = sym c.loop-done.invariant.2 ∙ many_all (part ws) (take c.loop-done.done (drop c.args.self.now.at ws)) c.args.n c.loop-done.done c.loop-done.self.at (omega arith) in
     let whole : got read c.loop-done.self.at ≡ many (part ws) c.args.n c.args.self.now.at = ap (λ xs. got xs c.loop-done.self.at) s ∙ sym e in
     let t = words_tell (g.R.WordRule.test c.args.rule.now) g.R.WordRule.code ws c.args.n c.args.self.now.at c.loop-done.self.at read (sym whole) in
-    record { same-words = c.loop-done.invariant.0; keeps-the-rule = (t.1, t.2); stays-before-a-refused-word = tt; reads-so-many = whole }
+    record { same_words = c.loop-done.invariant.0; keeps_the_rule = (t.1, t.2); stays_before_a_refused_word = tt; reads_so_many = whole }

@@ -11,10 +11,10 @@ returns c =
     let input = c.args.input.now in
     let out = c.args.out.now in
     let cut : take (c.min-len.result - 0) input ≡ take 24656 input = cut_is input 24656 (c.min-len.result - 0) (omega (arith, c.min-len.ensures)) in
-    let e : c.as-slice.result.now ≡ response input = c.as-slice.ensures.value ∙ c.answer-text.ensures ∙ ap reply cut in
-    let length-is = c.write.ensures.answers-the-length ∙ ap (λ (xs : List ℕ). written xs out) e in
+    let e : c.as_slice.result.now ≡ response input = c.as_slice.ensures.value ∙ c.answer-text.ensures ∙ ap reply cut in
+    let length-is = c.write.ensures.answers_the_length ∙ ap (λ (xs : List ℕ). written xs out) e in
     record {
-      answers-the-length = length-is;
-      within-the-buffer = written_fits (response input) out c.write.result length-is;
+      answers_the_length = length-is;
+      within_the_buffer = written_fits (response input) out c.write.result length-is;
       fills_the_front = c.write.ensures.fills_the_front ∙ ap (λ (xs : List ℕ). overwritten xs out) e;
     }

@@ -12,14 +12,14 @@ returns-then-number-lt10 t c = record {
   len = omega (arith, length_digit c.args.number c.if-number-lt10.true, c.push.ensures.len);
 }
 
-pub push-decimal-requires : goal.push-decimal-requires
-push-decimal-requires t c = let s = length_step c.args.number c.if-number-lt10.false (omega arith) in (omega (arith, c.decreases), omega arith)
+pub push_decimal-requires : goal.push_decimal-requires
+push_decimal-requires t c = let s = length_step c.args.number c.if-number-lt10.false (omega arith) in (omega (arith, c.decreases), omega arith)
 
 pub push-requires-2 : goal.push-requires-2
-push-requires-2 t c = let s = length_step c.args.number c.if-number-lt10.false (omega arith) in omega (arith, c.push-decimal.ensures.len)
+push-requires-2 t c = let s = length_step c.args.number c.if-number-lt10.false (omega arith) in omega (arith, c.push_decimal.ensures.len)
 
 pub returns : goal.returns
 returns t c = record {
-  text = digits_more (text_of c.args.self.now) (text_of c.push-decimal.new.self) (text_of c.push-2.new.self) c.args.number c.if-number-lt10.false (omega arith) c.push-decimal.ensures.text c.push-2.ensures.text;
-  len = let s = length_step c.args.number c.if-number-lt10.false (omega arith) in omega (arith, c.push-decimal.ensures.len, c.push-2.ensures.len);
+  text = digits_more (text_of c.args.self.now) (text_of c.push_decimal.new.self) (text_of c.push-2.new.self) c.args.number c.if-number-lt10.false (omega arith) c.push_decimal.ensures.text c.push-2.ensures.text;
+  len = let s = length_step c.args.number c.if-number-lt10.false (omega arith) in omega (arith, c.push_decimal.ensures.len, c.push-2.ensures.len);
 }

@@ -15,7 +15,7 @@ loop-item-preserved c =
     elim c.if-holds.branch [
       | then-holds w ↦
           subst (λ l. Going word (text_of l) set (k + 1) l.len) (sym w.line-is)
-          (going_add word (text_of c.loop-item.line) (text_of w.push-number.new.self) set k c.loop-item.line.len w.push-number.new.self.len c.loop-item.invariant (sym c.holds.ensures ∙ w.if-holds.true) w.push-number.ensures.text (w.push-number.ensures.short (omega arith)))
+          (going_add word (text_of c.loop-item.line) (text_of w.push_number.new.self) set k c.loop-item.line.len w.push_number.new.self.len c.loop-item.invariant (sym c.holds.ensures ∙ w.if-holds.true) w.push_number.ensures.text (w.push_number.ensures.short (omega arith)))
       | else-holds w ↦
           subst (λ l. Going word (text_of l) set (k + 1) l.len) (sym w.line-is)
           (going_skip word (text_of c.loop-item.line) set k c.loop-item.line.len c.loop-item.invariant (sym c.holds.ensures ∙ w.if-holds.false))
@@ -25,5 +25,5 @@ pub returns : goal.returns
 returns c =
     going_all c.args.word.now (text_of c.loop-item.line) (text_of c.push.new.self) c.args.set c.loop-item.item c.loop-item.line.len c.loop-item.invariant (omega arith) c.push.ensures.text
 
-pub push-number-requires : goal.push-number-requires
-push-number-requires c = omega (arith, c.loop-item.invariant.room)
+pub push_number-requires : goal.push_number-requires
+push_number-requires c = omega (arith, c.loop-item.invariant.room)

@@ -3,8 +3,8 @@ use lib.Bits.{bit_or, or_lt}
 use Rattle.std.proofs.lemmas.Nat.{one_shl, pow_below}
 use Rattle.cores.proofs.scope.Scope.restore.Goals as goal
 
-pub invariant-of-self : goal.invariant-of-self
-invariant-of-self c =
+pub invariant_of-self : goal.invariant_of-self
+invariant_of-self c =
     let s = c.args.self.now in
     let i = c.args.item in
     let lt : i < s.items = c.if-item-self.false in

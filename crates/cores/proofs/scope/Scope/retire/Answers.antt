@@ -7,7 +7,7 @@ pub returns-then-item-self : goal.returns-then-item-self
 returns-then-item-self c =
     let s = c.args.self.now in
     record {
-      answers-the-size = sym (cond-false _ _ _ (le-ltb c.args.item s.items c.if-item-self.true));
-      takes-it-out = sym (cond-false _ _ _ (has_beyond s.items c.args.item s.set s.ok.1 c.if-item-self.true));
-      keeps-the-items = refl;
+      answers_the_size = sym (cond-false _ _ _ (le-ltb c.args.item s.items c.if-item-self.true));
+      takes_it_out = sym (cond-false _ _ _ (has_beyond s.items c.args.item s.set s.ok.1 c.if-item-self.true));
+      keeps_the_items = refl;
     }

@@ -17,7 +17,7 @@ returns g c =
     let m = c.args.self.now in
     let n = (g.C.Criterion.meaning m.below).count in
     let low : bit_and c.args.set c.first.result ≡ c.args.set % 2 ^ n =
-    low_bits c.args.set c.count.result c.first.result (omega (arith, c.count.ensures.within-the-limit)) c.first.ensures ∙ ap (λ k. c.args.set % 2 ^ k) c.count.ensures.counts-the-items in
+    low_bits c.args.set c.count.result c.first.result (omega (arith, c.count.ensures.within_the_limit)) c.first.ensures ∙ ap (λ k. c.args.set % 2 ^ k) c.count.ensures.counts_the_items in
     let room : m.len < length m.entries = omega (arith, m.long, m.few) in
     let entry : _ → Remembered = λ x. record { set = x; verdict = c.args.verdict } in
     record { below = refl; row = grown_more m.entries m.len (entry _) (entry _) room (omega (arith, c.if-self-ge64.false)) (ap entry low) }

@@ -14,8 +14,8 @@ returns-in-Some g c =
     let below = g.C.Criterion.meaning m.below in
     let known : recall es c.args.set ≡ Some c.in-Some.known = search rules in
     record {
-      answers-the-verdict = λ o. recall_right below.verdict (g.met.C.Criterion.lawful m.below).monotone c.args.set es c.in-Some.known (and_parts below.order (agrees below.verdict es) o).1 known;
-      keeps-the-meaning = refl;
+      answers_the_verdict = λ o. recall_right below.verdict (g.met.C.Criterion.lawful m.below).monotone c.args.set es c.in-Some.known (and_parts below.order (agrees below.verdict es) o).1 known;
+      keeps_the_meaning = refl;
       recalls = λ b h. (cc, refl);
       learns = sym (ap (λ o. grown o es (record { set = c.args.set % 2 ^ below.count; verdict = c.in-Some.known })) known);
     }
@@ -29,12 +29,12 @@ returns g c =
     let s = c.args.set in
     let v = c.check-verdict.result in
     let none : recall es s ≡ None = search rules in
-    let same : meaning c.check-verdict.new.self ≡ below = c.check-verdict.ensures.keeps-the-meaning in
+    let same : meaning c.check-verdict.new.self ≡ below = c.check-verdict.ensures.keeps_the_meaning in
     let entry : ℕ → Remembered = λ n. record { set = s % 2 ^ n; verdict = v } in
     let grew : row c.learn.new.self ≡ grown None es (entry below.count) = c.learn.ensures.row ∙ ap (λ k. grown None es (entry k.count)) same in
     record {
-      answers-the-verdict = λ o. c.check-verdict.ensures.answers-the-verdict (and_parts below.order (agrees below.verdict es) o).0;
-      keeps-the-meaning = meaning_kept below (meaning c.learn.new.self.below) es (row c.learn.new.self) s v (g.met.C.Criterion.lawful m.below) (ap meaning c.learn.ensures.below ∙ same) c.check-verdict.ensures.answers-the-verdict grew;
+      answers_the_verdict = λ o. c.check-verdict.ensures.answers_the_verdict (and_parts below.order (agrees below.verdict es) o).0;
+      keeps_the_meaning = meaning_kept below (meaning c.learn.new.self.below) es (row c.learn.new.self) s v (g.met.C.Criterion.lawful m.below) (ap meaning c.learn.ensures.below ∙ same) c.check-verdict.ensures.answers_the_verdict grew;
       recalls = λ b h. let z : ◌≡◌ {A = ℕ} 0 1 = cc in absurd (omega arith);
       learns = grew ∙ sym (ap (λ o. grown o es (entry below.count)) none);
     }

@@ -14,7 +14,7 @@ loop-k-preserved c =
     elim c.if-holds.branch [
       | then-holds w ↦
           tally_same p c.args.set (k + 1) _ _ _ _ w.once-is w.more-is
-          (tally_hit p c.args.set k c.loop-k.once c.loop-k.more c.loop-k.invariant w.ends-ends.result w.ends-ends.type-inv (sym c.holds.ensures ∙ w.if-holds.true) w.ends-ends.ensures)
+          (tally_hit p c.args.set k c.loop-k.once c.loop-k.more c.loop-k.invariant w.ends-ends.result w.ends-ends.type_inv (sym c.holds.ensures ∙ w.if-holds.true) w.ends-ends.ensures)
       | else-holds w ↦
           tally_same p c.args.set (k + 1) _ _ _ _ w.once-is w.more-is
           (tally_miss p c.args.set k c.loop-k.once c.loop-k.more c.loop-k.invariant (sym c.holds.ensures ∙ w.if-holds.false))
@@ -23,5 +23,5 @@ loop-k-preserved c =
 pub returns : goal.returns
 returns c =
     let p = plan_of c.args.self.now in
-    let all : c.loop-k.k ≡ length p.joints = omega (arith, c.joint-count-k-end.ensures.value, c.loop-k-test.false) in
+    let all : c.loop-k.k ≡ length p.joints = omega (arith, c.joint_count-k-end.ensures.value, c.loop-k-test.false) in
     tally_all p c.args.set c.loop-k.k c.loop-k.once c.loop-k.more c.loop-k.invariant all

@@ -9,17 +9,17 @@ use Rattle.joints.proofs.plan.JointPlan.push.Goals as goal
 pushed : (xs ys : List Kept) (j : Kept) → ys ≡ xs ++ j ∷ [] → map joint_of ys ≡ map joint_of xs ++ joint_of j ∷ []
 pushed xs ys j e = ap (map joint_of) e ∙ map_push joint_of xs j
 
-pub invariant-of-self : goal.invariant-of-self
-invariant-of-self c =
+pub invariant_of-self : goal.invariant_of-self
+invariant_of-self c =
     let p = c.args.self.now in
     let xs = vec_items p.joints in
-    let e = pushed xs (vec_items c.push-reserved.new.self) c.args.joint c.push-reserved.ensures.items in
+    let e = pushed xs (vec_items c.push_reserved.new.self) c.args.joint c.push_reserved.ensures.items in
     let n = length-map xs joint_of in (
       subst (λ (js : List Joint). sound (record { bodies = p.bodies; joints = js }) ≡ true) (sym e) (sound_push p.bodies (map joint_of xs) (joint_of c.args.joint) p.ok (omega (arith, n, p.joints.ok.0, c.requires.few)) c.requires.links),
-      (omega (arith, p.room, c.push-reserved.ensures.capacity), tt),
+      (omega (arith, p.room, c.push_reserved.ensures.capacity), tt),
     )
 
 pub returns : goal.returns
 returns c =
     let p = c.args.self.now in
-    ap (λ (js : List Joint). record { bodies = p.bodies; joints = js }) (pushed (vec_items p.joints) (vec_items c.push-reserved.new.self) c.args.joint c.push-reserved.ensures.items)
+    ap (λ (js : List Joint). record { bodies = p.bodies; joints = js }) (pushed (vec_items p.joints) (vec_items c.push_reserved.new.self) c.args.joint c.push_reserved.ensures.items)

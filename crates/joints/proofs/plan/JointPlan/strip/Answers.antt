@@ -19,19 +19,19 @@ pub loop-k-preserved : goal.loop-k-preserved
 loop-k-preserved c =
     let p = plan_of c.args.self.now in
     let k = c.loop-k.k in
-    let at : k < length p.joints = omega (arith, c.joint-count-k-end.ensures.value) in
+    let at : k < length p.joints = omega (arith, c.joint_count-k-end.ensures.value) in
     let inside : k ∈ c.args.set = (decides_has k c.args.set).0 (sym c.holds.ensures ∙ c.if-not-holds.false) in
     elim c.if-ends-loose-eq0.branch [
       | then-ends-loose-eq0 w ↦
           subst (Sieve p c.args.set (k + 1)) (sym w.rest-is)
-          (sieve_keep p c.args.set k c.loop-k.rest c.loop-k.invariant (omega (arith, c.joint-count-k-end.ensures.few)) (stays p c.args.set c.loose-bodies-loose.result c.ends.result k at inside c.loose-bodies-loose.ensures c.ends.ensures w.if-ends-loose-eq0.true))
+          (sieve_keep p c.args.set k c.loop-k.rest c.loop-k.invariant (omega (arith, c.joint_count-k-end.ensures.few)) (stays p c.args.set c.loose_bodies-loose.result c.ends.result k at inside c.loose_bodies-loose.ensures c.ends.ensures w.if-ends-loose-eq0.true))
       | else-ends-loose-eq0 w ↦
           subst (Sieve p c.args.set (k + 1)) (sym w.rest-is)
-          (sieve_skip p c.args.set k c.loop-k.rest c.loop-k.invariant (goes p c.args.set c.loose-bodies-loose.result c.ends.result k at inside c.loose-bodies-loose.ensures c.ends.ensures w.if-ends-loose-eq0.false))
+          (sieve_skip p c.args.set k c.loop-k.rest c.loop-k.invariant (goes p c.args.set c.loose_bodies-loose.result c.ends.result k at inside c.loose_bodies-loose.ensures c.ends.ensures w.if-ends-loose-eq0.false))
     ]
 
 pub returns : goal.returns
 returns c =
     let p = plan_of c.args.self.now in
-    let all : length p.joints ≤ c.loop-k.k = omega (arith, c.joint-count-k-end.ensures.value, c.loop-k-test.false) in
+    let all : length p.joints ≤ c.loop-k.k = omega (arith, c.joint_count-k-end.ensures.value, c.loop-k-test.false) in
     sieve_all p c.args.set c.loop-k.k c.loop-k.rest c.loop-k.invariant all

@@ -13,7 +13,7 @@ returns-then-at-bodies c =
 pub returns-then-at-bodies-2 : goal.returns-then-at-bodies-2
 returns-then-at-bodies-2 c =
     let p = plan_of c.args.self.now in
-    c.joint-count.ensures.value ∙ at_count p.bodies (length p.joints) (map word p.joints) c.args.at (omega (arith, c.if-at-bodies-2.true))
+    c.joint_count.ensures.value ∙ at_count p.bodies (length p.joints) (map word p.joints) c.args.at (omega (arith, c.if-at-bodies-2.true))
 
 pub joint-requires : goal.joint-requires
 joint-requires c = omega (arith, c.requires, length_sheet (plan_of c.args.self.now), c.if-at-eq0.false, c.if-at-bodies.false, c.if-at-bodies-2.false)

@@ -4,4 +4,4 @@ use Rattle.joints.proofs.Plans.{length_sheet}
 use Rattle.joints.proofs.plan.JointPlan.words.Goals as goal
 
 pub returns : goal.returns
-returns c = omega (arith, length_sheet (plan_of c.args.self.now), c.joint-count.ensures.value)
+returns c = omega (arith, length_sheet (plan_of c.args.self.now), c.joint_count.ensures.value)

@@ -9,7 +9,7 @@ use Rattle.joints.proofs.sets.JointSetsCriterion.check.Goals as goal
 pub loop-rest-preserved : goal.loop-rest-preserved
 loop-rest-preserved c =
     let p = c.args.self.now.plan in
-    (strip_right (plan_of p) p.ok c.loop-rest.rest c.strip-next.result c.strip-next.ensures ∙ c.loop-rest.invariant.0, c.strip-next.type-inv)
+    (strip_right (plan_of p) p.ok c.loop-rest.rest c.strip-next.result c.strip-next.ensures ∙ c.loop-rest.invariant.0, c.strip-next.type_inv)
 
 pub loop-rest-smaller : goal.loop-rest-smaller
 loop-rest-smaller c =
@@ -24,7 +24,7 @@ returns-then-next-rest c =
     let v : not (eqb rest 0) ≡ has_closed_part p c.args.set =
     fixed_right p rest (λ i m. (c.strip-next.ensures i).0 (subst (λ x. i ∈ x) (sym c.if-next-rest.true) m)) ∙ c.loop-rest.invariant.0 in
     record {
-      answers-the-verdict = λ o. v;
-      keeps-the-meaning = refl;
-      yes-exactly-with-a-closed-part = ((λ t. (search_right p c.args.set).0 (sym v ∙ t)), (λ h. v ∙ (search_right p c.args.set).1 h));
+      answers_the_verdict = λ o. v;
+      keeps_the_meaning = refl;
+      yes_exactly_with_a_closed_part = ((λ t. (search_right p c.args.set).0 (sym v ∙ t)), (λ h. v ∙ (search_right p c.args.set).1 h));
     }
