@@ -4,7 +4,7 @@ use lib.Bits.{bit_and}
 use lib.Count.{ones}
 use Rattle.std.proofs.lemmas.Nat.{ones-le, and_le_l}
 use Rattle.std.proofs.lemmas.List.{take_all, take_more}
-use Rattle.std.proofs.lemmas.List.Elements.{All-more, All-weaker, All-from_get_or, Contains-append_left, Contains-push, Contains-get_or}
+use Rattle.std.proofs.lemmas.List.Elements.{All-nil, All-more, All-weaker, All-from_get_or, Contains-append_left, Contains-push, Contains-get_or}
 use Rattle.itemset.specs.Sets.{◌⊆◌, less}
 use Rattle.itemset.proofs.Members.{subset_le}
 use Rattle.itemset.proofs.Bits.{and_not}
@@ -16,7 +16,7 @@ Best row E K None least = All (λ D. D ⊆ E → ⊥) row × (32 < least)
 Best row E K (Some C) least = Contains row C × (C ⊆ E) × (spare K C ≡ least) × All (λ D. D ⊆ E → least ≤ spare K D) row
 
 pub best_none : (E K : ℕ) → Best [] E K None 33
-best_none E K = (tt, omega arith)
+best_none E K = (All-nil (λ D. D ⊆ E → ⊥), omega arith)
 
 spare_small : (E K x : ℕ) → E < 2 ^ 32 → x ⊆ E → spare K x ≤ 32
 spare_small E K x fits s = ones-le 32 (less x K) (omega (arith, subset_le x E s, and_le_l x K))

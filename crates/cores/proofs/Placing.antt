@@ -2,7 +2,7 @@
 use Rattle.std.proofs.Common.{◌≡◌, ℕ, suc, ◌+◌, ◌-◌, ◌^◌, ◌<◌, ◌≤◌, Bool, true, false, cond, ltb, ◌⊎◌, List, [], ◌∷◌, ◌++◌, length, get_or, take, drop, set, replicate, All, Contains, sym, refl, ap, ◌∙◌, subst, inl, inr, ⊎_elim, one-add, arith}
 use lib.Seq.{paste}
 use Rattle.std.specs.List.{prefix_len, insert}
-use Rattle.std.proofs.lemmas.List.Elements.{All-weaker}
+use Rattle.std.proofs.lemmas.List.Elements.{All-nil, All-cons, All-head, All-tail, All-weaker}
 use Rattle.std.proofs.lemmas.List.{take_at, drop_at, take_more, take-take, length-take-le, length-append, length-drop, append_assoc, set_at, drop-drop, drop-replicate}
 use Rattle.std.proofs.lemmas.Slice.{between_is}
 use Rattle.std.proofs.lemmas.List.Sums.{prefix_len-le-length}
@@ -47,12 +47,12 @@ inserted_is xs ys at count x e lt f =
 -- ---- what the row has then
 
 pub all_placed : (P : ℕ → Type 0) (x : ℕ) (row : List ℕ) → P x → All P row → All P (placed x row)
-all_placed P x [] p a = (p, tt)
-all_placed P x (y ∷ ys) p a = go (ltb y x) (all_placed P x ys p a.1)
+all_placed P x [] p a = All-cons P x [] p a
+all_placed P x (y ∷ ys) p a = go (ltb y x) (all_placed P x ys p (All-tail P y ys a))
   where
     go : (b : Bool) → All P (placed x ys) → All P (cond b (y ∷ placed x ys) (x ∷ y ∷ ys))
-    go true h = (a.0, h)
-    go false h = (p, a)
+    go true h = All-cons P y (placed x ys) (All-head P y ys a) h
+    go false h = All-cons P x (y ∷ ys) p a
 
 pub length_placed : (x : ℕ) (row : List ℕ) → length (placed x row) ≡ length row + 1
 length_placed x [] = refl
@@ -63,12 +63,12 @@ length_placed x (y ∷ ys) = go (ltb y x) (length_placed x ys)
     go false h = omega arith
 
 pub rising_placed : (x : ℕ) (row : List ℕ) → Rising row → All (λ y. y ≡ x → ⊥) row → Rising (placed x row)
-rising_placed x [] r new = (tt, tt)
-rising_placed x (y ∷ ys) r new = go (ltb y x) refl (rising_placed x ys r.1 new.1)
+rising_placed x [] r new = (All-nil (λ y. x < y), tt)
+rising_placed x (y ∷ ys) r new = go (ltb y x) refl (rising_placed x ys r.1 (All-tail (λ z. z ≡ x → ⊥) y ys new))
   where
     go : (b : Bool) → ltb y x ≡ b → Rising (placed x ys) → Rising (cond b (y ∷ placed x ys) (x ∷ y ∷ ys))
     go true e k = (all_placed (λ z. y < z) x ys (ltb-true y x e) r.0, k)
-    go false e k = let lt : x < y = omega (arith, ltb-false y x e, new.0) in ((lt, All-weaker (λ z. y < z) (λ z. x < z) (λ z h. omega arith) ys r.0), r)
+    go false e k = let lt : x < y = omega (arith, ltb-false y x e, All-head (λ z. z ≡ x → ⊥) y ys new) in (All-cons (λ z. x < z) y ys lt (All-weaker (λ z. y < z) (λ z. x < z) (λ z h. omega arith) ys r.0), r)
 
 mem_new : (x : ℕ) (row : List ℕ) → Mem x (placed x row)
 mem_new x [] = inl refl

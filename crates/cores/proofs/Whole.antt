@@ -2,7 +2,7 @@
 use Rattle.std.proofs.Common.{◌≡◌, ℕ, zero, ◌-◌, ◌^◌, ◌<◌, ◌≤◌, Bool, true, false, ◌↔◌, List, ◌++◌, length, get_or, take, drop, replicate, Ok, Err, MatchBool, All, Contains, sym, refl, ap, ◌∙◌, subst, ⊎_elim, arith}
 use Rattle.std.specs.List.{range_with_len}
 use Rattle.std.proofs.lemmas.List.FromFn.{length-range_with_len}
-use Rattle.std.proofs.lemmas.List.Elements.{All-contains, Contains-get_or}
+use Rattle.std.proofs.lemmas.List.Elements.{All-nil, All-contains, Contains-get_or}
 use Rattle.std.proofs.lemmas.List.{take-append-drop, length-take-le, take_at, drop_at, length-append, length-replicate}
 use Rattle.std.proofs.lemmas.Bool.{both_ways, cases_Bool}
 use Rattle.itemset.specs.Sets.{◌∈◌, ◌⊆◌}
@@ -55,7 +55,7 @@ module _ (m : Meaning) (law : Monotone m.verdict) (E : ℕ) where
   lists_no n size before places o l r h = (r.zeros ∙ ap (λ (k : ℕ). replicate {A = ℕ} k 0) (omega (arith, l)), ⊎_elim (λ t. absurd (none t)) (λ f. when_false f) (cases_Bool (m.verdict E)))
     where
       none : m.verdict E ≡ true → ⊥
-      none t = let k = found m.verdict E t in omega (arith, ((h o E (λ i p. p) tt).1 k.0 k.1 (none_in_0 k.0)).1)
+      none t = let k = found m.verdict E t in omega (arith, ((h o E (λ i p. p) (All-nil (Core m.verdict E))).1 k.0 k.1 (none_in_0 k.0)).1)
 
       when_false : m.verdict E ≡ false → MatchBool (m.verdict E) ((size < length (cores m.verdict E)) × (number GetsNo ≡ 13)) (number GetsNo ≡ 12)
       when_false f = subst (λ b. MatchBool b ((size < length (cores m.verdict E)) × (number GetsNo ≡ 13)) (number GetsNo ≡ 12)) (sym f) refl
@@ -68,7 +68,7 @@ module _ (m : Meaning) (law : Monotone m.verdict) (E : ℕ) where
       V = m.verdict
 
       told : (number r ≡ 13) × (length before < length (cores V E))
-      told = h o E (λ i p. p) tt
+      told = h o E (λ i p. p) (All-nil (Core V E))
 
       many : size < length (cores V E)
       many = omega (arith, told.1)
@@ -83,7 +83,7 @@ module _ (m : Meaning) (law : Monotone m.verdict) (E : ℕ) where
   pub lists_all : (n count size : ℕ) (before places : List ℕ) → (count ≡ 0 → ⊥) → m.order ≡ true → length places ≡ size → Row n count places → Explored m E 0 0 before places (Ok count) → Lists m E size places (Ok count)
   lists_all n count size before places ne o l r h =
       let V = m.verdict in
-      let found = h o E (λ i p. p) tt in
+      let found = h o E (λ i p. p) (All-nil (Core V E)) in
       let row = take count places in
       let same : row ≡ cores V E = listed_is V E row r.rising (λ K. (λ p. All-contains (Core V E) row K found.0 p, λ c. found.1 K c (none_in_0 K))) in
       let long : length row ≡ count = length-take-le count places r.high in

@@ -7,19 +7,19 @@ pub trait Criterion {
     // the most items that a criterion of this kind can have, never above 31
     const LIMIT: u32;
 
-    // the value of LIMIT: no clause can name the constant of a type parameter
-    ghost limit: { ℕ };
+    // the constant, for clauses
+    ghost LIMIT: { ℕ };
 
     ghost meaning: { Self → Meaning };
 
     // The value of LIMIT, for generic code.
     fn most() -> u32
-        ensures is_the_limit { result ≡ limit };
+        ensures is_the_limit { result ≡ LIMIT };
 
     // How many items there are.
     fn count(&self) -> u32
         ensures counts_the_items { result ≡ (meaning self.now).count }
-        ensures within_the_limit { (result ≤ limit) × (limit ≤ 31) };
+        ensures within_the_limit { (result ≤ LIMIT) × (LIMIT ≤ 31) };
 
     // Whether the set gets yes. Nothing of the meaning changes; out of order the answer is free.
     fn check(&mut self, set: u32) -> bool

@@ -113,7 +113,7 @@ impl<C: Criterion> Memory<C> {
 impl<C: Criterion> Criterion for Memory<C> {
     const LIMIT: u32 = C::LIMIT;
 
-    ghost limit = { C.Criterion.limit };
+    ghost LIMIT = { C.LIMIT };
 
     ghost meaning = { remembering C.Criterion.meaning };
 

@@ -29,7 +29,7 @@ impl<C> Ungrouped<C> {
 impl<C: Criterion> Criterion for Ungrouped<C> {
     const LIMIT: u32 = C::LIMIT;
 
-    ghost limit = { C.Criterion.limit };
+    ghost LIMIT = { C.LIMIT };
 
     ghost meaning = { λ u. ungrouped (C.Criterion.meaning u.below) };
 

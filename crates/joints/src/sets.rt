@@ -79,7 +79,7 @@ impl JointSets {
 impl Criterion for JointSets {
     const LIMIT: u32 = 31;
 
-    ghost limit = { 31 };
+    ghost LIMIT = { 31 };
 
     ghost meaning = { λ j. joint_sets (plan_of j.plan) };
 
@@ -87,7 +87,7 @@ impl Criterion for JointSets {
 
     fn most() -> u32
         ensures is_the_limit { result ≡ 31 }
-        ensures* is_the_constant { do ⌜ result ≡ (← (⟦Self::LIMIT⟧).entry) ⌝ }
+        ensures is_the_constant { result ≡ ⟦<JointSets as Criterion>⟧.LIMIT }
     {
         Self::LIMIT
     }
@@ -95,7 +95,7 @@ impl Criterion for JointSets {
     fn count(&self) -> u32
         ensures counts_the_items { result ≡ (joint_sets (plan_of self.now.plan)).count }
         ensures within_the_limit { (result ≤ 31) × (31 ≤ 31) }
-        ensures* within_the_constant { do ⌜ result ≤ (← (⟦Self::LIMIT⟧).entry) ⌝ ∗ ⌜ (← (⟦Self::LIMIT⟧).entry) ≤ 31 ⌝ }
+        ensures within_the_constant { (result ≤ ⟦<JointSets as Criterion>⟧.LIMIT) × (⟦<JointSets as Criterion>⟧.LIMIT ≤ 31) }
     {
         self.plan.joint_count() as u32
     }

@@ -10,7 +10,7 @@ pub struct Always;
 impl Criterion for Always {
     const LIMIT: u32 = 31;
 
-    ghost limit = { 31 };
+    ghost LIMIT = { 31 };
 
     ghost meaning = { λ _. record { count = 31; verdict = λ _. true; group = λ _. 2; order = true } };
 

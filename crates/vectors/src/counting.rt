@@ -28,7 +28,7 @@ impl<C> Counting<C> {
 impl<C: Criterion> Criterion for Counting<C> {
     const LIMIT: u32 = C::LIMIT;
 
-    ghost limit = { C.Criterion.limit };
+    ghost LIMIT = { C.LIMIT };
 
     ghost meaning = { λ c. C.Criterion.meaning c.below };
 

@@ -42,8 +42,8 @@ explore-requires g t c κs within =
     let falls : less E (2 ^ i) < E = less_falls E i (row.1 i ((in_less i C c.args.held).0 here).0) in
     (omega (arith, falls, c.lacking.ensures.set), (within, subst (λ k. Row k c.loop-item.count c.loop-item.places) (sym c.lacking.ensures.items) inv.1.row))
 
-pub overflow_shl_held : goal.overflow_shl_held
-overflow_shl_held g t c = let low : Lowest c.loop-item.loose c.in-Some-lowest.item = c.in-Some-lowest.ensures in item_small c.loop-item.loose c.in-Some-lowest.item c.loop-item.invariant.5 low.member
+pub overflow_shl-held : goal.overflow_shl-held
+overflow_shl-held g t c = let low : Lowest c.loop-item.loose c.in-Some-lowest.item = c.in-Some-lowest.ensures in item_small c.loop-item.loose c.in-Some-lowest.item c.loop-item.invariant.5 low.member
 
 pub loop-item-smaller : goal.loop-item-smaller
 loop-item-smaller g t c =

@@ -14,10 +14,11 @@ invariant_of-self c =
     let p = c.args.self.now in
     let xs = vec_items p.joints in
     let e = pushed xs (vec_items c.push_reserved.new.self) c.args.joint c.push_reserved.ensures.items in
-    let n = length-map xs joint_of in (
-      subst (λ (js : List Joint). sound (record { bodies = p.bodies; joints = js }) ≡ true) (sym e) (sound_push p.bodies (map joint_of xs) (joint_of c.args.joint) p.ok (omega (arith, n, p.joints.ok.0, c.requires.few)) c.requires.links),
-      (omega (arith, p.room, c.push_reserved.ensures.capacity), tt),
-    )
+    let n = length-map xs joint_of in
+    record {
+      ok = subst (λ (js : List Joint). sound (record { bodies = p.bodies; joints = js }) ≡ true) (sym e) (sound_push p.bodies (map joint_of xs) (joint_of c.args.joint) p.ok (omega (arith, n, p.joints.ok.0, c.requires.few)) c.requires.links);
+      room = omega (arith, p.room, c.push_reserved.ensures.capacity);
+    }
 
 pub returns : goal.returns
 returns c =
