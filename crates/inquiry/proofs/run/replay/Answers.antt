@@ -17,7 +17,7 @@ loop-call-init g c =
     let n = vec_len c.args.answers in
     let long : n ≡ length xs = omega (arith, c.args.answers.ok.0) in
     let calls = into_iter_items c.into_iter-call-iterator.result in
-    let many : length calls ≡ vec_len c.args.calls = ap length c.into_iter-call-iterator.ensures.into_iter-gives.0 ∙ omega (arith, c.args.calls.ok.0) in (
+    let many : length calls ≡ vec_len c.args.calls = ap length c.into_iter-call-iterator.ensures.into_iter_gives.0 ∙ omega (arith, c.args.calls.ok.0) in (
       refl,
       opened.counts_its_items ∙ ap (λ x. (meaning x).count) (sym opened.holds_the_criterion),
       omega (arith, many, c.capacity.ensures, c.len.ensures, c.len-2.ensures, c.if-capacity-len.false, c.args.answers.ok),
@@ -59,7 +59,7 @@ returns g c =
     let long : n ≡ length xs = omega (arith, c.args.answers.ok.0) in
     let calls = vec_items c.args.calls in
     let same : m₁ ≡ m = ap meaning c.open-inquiry.ensures.holds_the_criterion in
-    let becomes = c.into_iter-call-iterator.ensures.into_iter-gives.0 in
+    let becomes = c.into_iter-call-iterator.ensures.into_iter_gives.0 in
     let end : into_iter_items c.loop-call.call-iterator ≡ [] = nil_from_length (into_iter_items c.loop-call.call-iterator) (omega (arith, c.in-None.ensures.steps.0, c.loop-call.call-iterator.rest.ok.0)) in
     let closed : meaning c.close.result ≡ m₁ = ap meaning c.close.ensures.gives_it_back ∙ inv.0 in
     let run : Replayed m₁ (meaning c.close.result) (into_iter_items c.into_iter-call-iterator.result) (drop n ys) =
