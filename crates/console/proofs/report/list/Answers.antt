@@ -1,4 +1,4 @@
-use Rattle.std.proofs.Common.{◌≡◌, ℕ, List, [], ◌∷◌, ◌++◌, length, vec_items, Vec, sym, ap, ◌∙◌, subst, arith}
+use Rattle.std.proofs.Common.{◌≡◌, ℕ, List, [], ◌∷◌, ◌++◌, length, vec_items, Vec, IfOk, sym, ap, ◌∙◌, subst, arith}
 use Rattle.std.specs.declared.alloc.Global.{Global}
 use Rattle.std.proofs.lemmas.List.{nil_from_length}
 use Rattle.itemset.specs.Sets.{full}
@@ -37,7 +37,7 @@ report-requires g c =
     let long = lists_long m (full m.count) (vec_items apart.2) apart.1 lists in
     let slice = ap length c.as_slice.ensures.value in
     let fits = count_fits m (full m.count) (vec_items apart.2) apart.1 lists in
-    record { fits = subst (λ (xs : List ℕ). Rattle.std.specs.Vec.made apart.1 (λ n. Prim.Native.Nat.◌≤◌ n (length xs))) (sym c.as_slice.ensures.value) fits; room = omega (arith, c.requires.room, long, slice) }
+    record { fits = subst (λ (xs : List ℕ). IfOk apart.1 (λ n. Prim.Native.Nat.◌≤◌ n (length xs))) (sym c.as_slice.ensures.value) fits; room = omega (arith, c.requires.room, long, slice) }
 
 pub returns : goal.returns
 returns g c =
