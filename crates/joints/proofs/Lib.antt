@@ -1,2 +1,5 @@
+pub mod Words
+pub mod Trips
 pub mod Plans
+pub mod Closing
 pub mod Stripping

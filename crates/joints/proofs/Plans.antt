@@ -5,8 +5,8 @@ use Rattle.base.specs.Sheets.{all_of}
 use Rattle.base.proofs.Tests.{all_at, all_push}
 use Rattle.joints.specs.Plans.{Joint, Plan, links, sheet, sound, word}
 use Rattle.joints.specs.Admission.{joint}
-use Rattle.joints.specs.Words.{links_parts}
-use Rattle.joints.specs.Trips.{sound_parts, parts_sound}
+use Rattle.joints.specs.Lawful.{links_parts, sound_parts}
+use Rattle.joints.proofs.Trips.{parts_sound}
 
 -- ---- one joint more
 

@@ -6,6 +6,4 @@ pub mod Held
 pub mod Views
 pub mod Closed
 pub mod Laws
-pub mod Closing
-pub mod Words
-pub mod Trips
+pub mod Lawful

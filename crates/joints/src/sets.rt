@@ -4,7 +4,7 @@ ghost use Rattle.itemset.specs.Sets.{◌∈◌};
 ghost use Rattle.joints.specs.Closed.{HasClosedPart, Stays, joint_sets, touches, touching};
 ghost use Rattle.joints.specs.Plans.{joint_at};
 ghost use Rattle.joints.specs.Views.{plan_of};
-ghost use Rattle.joints.specs.Closing.{sets_lawful};
+ghost use Rattle.joints.specs.Lawful.{sets_lawful};
 
 use crate::plan::JointPlan;
 use criterion::{Criterion, GroupedCriterion};

@@ -16,15 +16,18 @@ fn lines(rt: HostRuntime) {
     assert!(rt; places == *b"items 31\n...");
     assert_eq!(rt; Line::common(0).write(&mut places), Ok(7));
     assert!(rt; places == *b"common\n1\n...");
-    assert_eq!(rt; Line::core(0x8000_0001).as_slice(), b"core 0 31\n");
-    assert_eq!(rt; Line::common(0b110).as_slice(), b"common 1 2\n");
+    assert_eq!(rt;
+        Line::core(0x8000_0001).as_slice(),
+        b"core 0 31\n".as_slice()
+    );
+    assert_eq!(rt; Line::common(0b110).as_slice(), b"common 1 2\n".as_slice());
     assert_eq!(rt;
         Line::refused(Refusal::JointWord(12345)).as_slice(),
-        b"refused 7 12345\n"
+        b"refused 7 12345\n".as_slice()
     );
     assert_eq!(rt;
         Line::refused(Refusal::MissingWord(usize::MAX)).as_slice(),
-        b"refused 1 18446744073709551615\n"
+        b"refused 1 18446744073709551615\n".as_slice()
     );
 }
 

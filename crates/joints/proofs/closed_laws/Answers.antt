@@ -1,7 +1,8 @@
 use Rattle.std.proofs.Common.{refl}
 use Rattle.criterion.specs.Cores.{cores}
 use Rattle.joints.specs.Closed.{has_closed_part, touching}
-use Rattle.joints.specs.Closing.{search_right, strip_right, sets_lawful}
+use Rattle.joints.specs.Lawful.{search_right, sets_lawful}
+use Rattle.joints.proofs.Closing.{strip_right}
 use Rattle.joints.proofs.closed_laws.Goals as goal
 
 pub returns : goal.returns

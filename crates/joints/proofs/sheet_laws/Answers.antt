@@ -1,4 +1,4 @@
-use Rattle.joints.specs.Trips.{sheet_of_admitted, admission_of_sheet, refused_where, left_over}
+use Rattle.joints.proofs.Trips.{sheet_of_admitted, admission_of_sheet, refused_where, left_over}
 use Rattle.joints.proofs.sheet_laws.Goals as goal
 
 pub returns : goal.returns

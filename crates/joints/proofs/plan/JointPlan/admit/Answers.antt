@@ -2,7 +2,7 @@ use Rattle.std.proofs.Common.{◌≡◌, sym, ap, ◌∙◌}
 use Rattle.base.specs.Outcomes.{accepted, standing}
 use Rattle.joints.specs.Admission.{admission}
 use Rattle.joints.specs.Views.{draft_of, plan_of}
-use Rattle.joints.specs.Trips.{sheet_of_admitted}
+use Rattle.joints.proofs.Trips.{sheet_of_admitted}
 use Rattle.joints.proofs.plan.JointPlan.admit.Goals as goal
 
 pub replace-requires : goal.replace-requires

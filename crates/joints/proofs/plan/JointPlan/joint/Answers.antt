@@ -3,8 +3,8 @@ use Rattle.std.proofs.lemmas.List.{get_or-map, length-map}
 use Rattle.joints.specs.Held.{joint_of}
 use Rattle.joints.specs.Plans.{joint_at, no_joint}
 use Rattle.joints.specs.Views.{plan_of}
-use Rattle.joints.specs.Closing.{links_at}
-use Rattle.joints.specs.Trips.{sound_parts}
+use Rattle.joints.specs.Lawful.{links_at}
+use Rattle.joints.specs.Lawful.{sound_parts}
 use Rattle.joints.proofs.plan.JointPlan.joint.Goals as goal
 
 pub index-requires : goal.index-requires

@@ -2,7 +2,7 @@ use Rattle.std.proofs.Common.{◌≡◌, length, vec_items, sym, subst, arith}
 use Rattle.std.proofs.lemmas.List.{length-map}
 use Rattle.joints.specs.Held.{joint_of}
 use Rattle.joints.specs.Views.{plan_of}
-use Rattle.joints.specs.Trips.{sound_parts}
+use Rattle.joints.specs.Lawful.{sound_parts}
 use Rattle.joints.proofs.plan.JointPlan.joint_count.Goals as goal
 
 pub returns : goal.returns

@@ -3,7 +3,7 @@ use Rattle.base.specs.Outcomes.{accepted}
 use Rattle.base.proofs.Writing.{pasted_more, pasted_all, written_ok, overwritten_ok, written_short, overwritten_short}
 use Rattle.joints.specs.Plans.{sheet}
 use Rattle.joints.specs.Views.{plan_of}
-use Rattle.joints.specs.Trips.{admission_of_sheet}
+use Rattle.joints.proofs.Trips.{admission_of_sheet}
 use Rattle.joints.proofs.plan.JointPlan.write.Goals as goal
 
 pub returns-then-places-len : goal.returns-then-places-len

@@ -3,7 +3,8 @@ use Rattle.itemset.specs.Sets.{◌∈◌}
 use Rattle.itemset.proofs.Members.{subset_le}
 use Rattle.joints.specs.Closed.{has_closed_part}
 use Rattle.joints.specs.Views.{plan_of}
-use Rattle.joints.specs.Closing.{search_right, strip_right, fixed_right}
+use Rattle.joints.specs.Lawful.{search_right}
+use Rattle.joints.proofs.Closing.{strip_right, fixed_right}
 use Rattle.joints.proofs.sets.JointSetsCriterion.check.Goals as goal
 
 pub loop-rest-preserved : goal.loop-rest-preserved

@@ -1,6 +1,6 @@
 use Rattle.std.proofs.Common.{◌≡◌, ◌<◌, ◌≤◌, length, sym, ap, ◌∙◌, arith}
 use Rattle.joints.specs.Views.{plan_of}
-use Rattle.joints.specs.Closing.{class_at, class_past}
+use Rattle.joints.specs.Lawful.{class_at, class_past}
 use Rattle.joints.proofs.sets.JointSetsGroupedCriterion.group.Goals as goal
 
 pub returns-then-item-joint_count : goal.returns-then-item-joint_count

@@ -11,20 +11,15 @@ use Rattle.base.proofs.Finds.{At, passing_finds, words_find, whole_finds}
 use Rattle.base.proofs.Stops.{Placed, passing_placed, then_placed, got_placed, many_placed}
 use Rattle.joints.specs.Plans.{Joint, Plan, links, sheet, sound, word}
 use Rattle.joints.specs.Admission.{joint, clear, fine, plan_at, admission}
+use Rattle.joints.specs.Lawful.{sound_parts}
 use Rattle.joints.specs.RoundTrip.{SheetOfAdmitted, AdmissionOfSheet, RefusedWhere, LeftOver}
-use Rattle.joints.specs.Words.{joints_words, fine_words, words_joints, links_joints}
+use Rattle.joints.proofs.Words.{joints_words, fine_words, words_joints, links_joints}
 
 length_nil : (xs : List ℕ) → length xs ≡ 0 → xs ≡ []
 length_nil [] e = refl
 length_nil (x ∷ xs) e = absurd (omega (arith, e))
 
--- the parts of a sound plan
-pub sound_parts : (p : Plan) → sound p ≡ true → (p.bodies ≤ 32) × (length p.joints ≤ 31) × (all_of (links p.bodies) p.joints ≡ true)
-sound_parts p t =
-    let q = and_parts (nat_le p.bodies 32) _ t in
-    let r = and_parts (nat_le (length p.joints) 31) (all_of (links p.bodies) p.joints) q.1 in
-    (leb-true p.bodies 32 q.0, leb-true (length p.joints) 31 r.0, r.1)
-
+-- from the parts of a plan
 pub parts_sound : (p : Plan) → p.bodies ≤ 32 → length p.joints ≤ 31 → all_of (links p.bodies) p.joints ≡ true → sound p ≡ true
 parts_sound p small few ls =
     and_from (nat_le p.bodies 32) _ (le-leb p.bodies 32 small) (and_from (nat_le (length p.joints) 31) (all_of (links p.bodies) p.joints) (le-leb (length p.joints) 31 few) ls)

@@ -5,25 +5,7 @@ use Rattle.std.proofs.lemmas.Bool.{and_from, and_parts, leb-true, lt-ltb, ltb-tr
 use Rattle.base.specs.Sheets.{all_of}
 use Rattle.joints.specs.Plans.{Joint, links, word}
 use Rattle.joints.specs.Admission.{joint, fine}
-
--- what the test of a joint says
-pub record Links (bodies : ℕ) (j : Joint) : Type 0 where
-  pub low : j.first < bodies
-  pub high : j.second < bodies
-  pub apart : j.first ≡ j.second → ⊥
-  pub classed : j.class ≤ 2
-
-pub links_parts : (b : ℕ) (j : Joint) → links b j ≡ true → Links b j
-links_parts b j t =
-    let q = and_parts (nat_lt j.first b) _ t in
-    let r = and_parts (nat_lt j.second b) _ q.1 in
-    let s = and_parts (not (j.first == j.second)) _ r.1 in
-    record {
-      low = ltb-true j.first b q.0;
-      high = ltb-true j.second b r.0;
-      apart = eqb-false j.first j.second (not-true (j.first == j.second) s.0);
-      classed = leb-true j.class 2 s.1;
-    }
+use Rattle.joints.specs.Lawful.{Links, links_parts}
 
 module _ (f s c : ℕ) (p : f < 32) (q : s < 32) (r : c ≤ 2) where
   first_is : (f + 256 * s + 65536 * c) % 256 ≡ f

@@ -1,4 +1,4 @@
--- Closed parts: the search finds them, stripping keeps them, and the law of criteria.
+-- Closed parts: stripping keeps them.
 use Rattle.std.specs.Prelude.{◌≡◌, ℕ, ◌+◌, ◌%◌, ◌^◌, ◌<◌, ◌≤◌, Bool, true, false, not, ◌&&◌, ◌||◌, ◌⊎◌, ◌↔◌, List, map, length, ◌==◌, slice_index_or, refl}
 use Rattle.std.proofs.Common.{sym, ap, subst, ◌∙◌, inl, inr, ⊎_elim, arith}
 use Rattle.std.proofs.lemmas.Bool.{and_from, and_parts, or_cases, or_left, or_right, cases_lt, cases_eq, eq-eqb, eqb-true, eqb-false, ne_eqb, not-true, not_from_false, both_ways}
@@ -12,8 +12,7 @@ use Rattle.base.proofs.Tests.{all_at}
 use Rattle.joints.specs.Plans.{Joint, Plan, links, sound, joint_at, no_joint}
 use Rattle.joints.specs.Closed.{touches, meets, touching, ClosedPart, no_loose_body, has_closed_part, joint_sets, Stays}
 use Rattle.joints.specs.Laws.{SearchRight, StripRight, SetsLawful}
-use Rattle.joints.specs.Words.{Links, links_parts}
-use Rattle.joints.specs.Trips.{sound_parts}
+use Rattle.joints.specs.Lawful.{links_at, search_right}
 
 -- ---- touching
 
@@ -40,49 +39,7 @@ touches_first j = or_left (j.first == j.first) (j.second == j.first) (eq-eqb j.f
 touches_second : (j : Joint) → touches j j.second ≡ true
 touches_second j = or_right (j.first == j.second) (j.second == j.second) (eq-eqb j.second j.second refl)
 
--- ---- the search through the parts
-
-test : Plan → ℕ → ℕ → Bool
-test p set part = not (part == 0) && (within part set && no_loose_body p part)
-
-pub search_right : SearchRight
-unfolding has_closed_part test
-search_right p set = (found, kept)
-  where
-    n : ℕ
-    n = length p.joints
-
-    found : has_closed_part p set ≡ true → (part : ℕ) × ClosedPart p set part
-    found e =
-        let r = (some_right (2 ^ length p.joints) (test p set)).0 e in
-        let part = r.0 in
-        let a = and_parts (not (part == 0)) (within part set && no_loose_body p part) r.2 in
-        let b = and_parts (within part set) (no_loose_body p part) a.1 in (
-          part,
-          record {
-            joints = (below (length p.joints) part).0 r.1;
-            filled = eqb-false part 0 (not-true (part == 0) a.0);
-            inside = (decides_within part set).0 b.0;
-            closed = λ k l. eqb-false (touching p part k) 1 (not-true (touching p part k == 1) ((every_right p.bodies (λ b. not (touching p part b == 1))).0 b.1 k l));
-          },
-        )
-
-    kept : (part : ℕ) × ClosedPart p set part → has_closed_part p set ≡ true
-    kept h =
-        let part = h.0 in
-        let c = h.1 in
-        (some_right (2 ^ length p.joints) (test p set)).1 (
-          part,
-          (below (length p.joints) part).1 c.joints,
-          and_from (not (part == 0)) (within part set && no_loose_body p part) (not_from_false (part == 0) (ne_eqb part 0 c.filled))
-              (and_from (within part set) (no_loose_body p part) ((decides_within part set).1 c.inside)
-              ((every_right p.bodies (λ b. not (touching p part b == 1))).1 (λ k l. not_from_false (touching p part k == 1) (ne_eqb (touching p part k) 1 (c.closed k l))))),
-        )
-
 -- ---- stripping
-
-pub links_at : (p : Plan) → sound p ≡ true → (i : ℕ) → i < length p.joints → Links p.bodies (joint_at p i)
-links_at p s i lt = links_parts p.bodies (joint_at p i) (all_at (links p.bodies) p.joints i no_joint (sound_parts p s).2 lt)
 
 pub strip_right : StripRight
 strip_right p sound set rest f =
@@ -141,29 +98,3 @@ fixed_right p set f =
     (λ z. ap not (eq-eqb set 0 z) ∙ sym (none_closed p) ∙ ap (has_closed_part p) (sym z))
     (λ ne. not_from_false (set == 0) (ne_eqb set 0 ne) ∙ sym ((search_right p set).1 (set, fixed_part p set f ne)))
     (cases_eq set 0)
-
--- ---- the law
-
-pub class_at : (p : Plan) (i : ℕ) → i < length p.joints → slice_index_or (map (λ j. j.class) p.joints) i 2 ≡ (joint_at p i).class
-class_at p i l = get_or-map (λ j. j.class) p.joints i no_joint 2 l
-
-pub class_past : (p : Plan) (i : ℕ) → length p.joints ≤ i → slice_index_or (map (λ j. j.class) p.joints) i 2 ≡ 2
-class_past p i l = get_or_past (map (λ j. j.class) p.joints) i 2 (subst (λ n. n ≤ i) (sym (length-map p.joints (λ j. j.class))) l)
-
-pub sets_lawful : SetsLawful
-sets_lawful p s = record {
-  few = (sound_parts p s).1;
-  monotone = λ a b sub e.
-      let h = (search_right p a).0 e in
-      let c = h.1 in
-      (search_right p b).1 (h.0, record { joints = c.joints; filled = c.filled; inside = λ i m. sub i (c.inside i m); closed = c.closed });
-  counts = λ w. same_tests (has_closed_part p w) (has_closed_part p (w % 2 ^ length p.joints))
-      (λ e. let h = (search_right p w).0 e in
-      let c = h.1 in
-      (search_right p (w % 2 ^ length p.joints)).1 (h.0, record { joints = c.joints; filled = c.filled; inside = λ i m. (in_low (length p.joints) w i).1 (c.inside i m, c.joints i m); closed = c.closed }))
-      (λ e. let h = (search_right p (w % 2 ^ length p.joints)).0 e in
-      let c = h.1 in
-      (search_right p w).1 (h.0, record { joints = c.joints; filled = c.filled; inside = λ i m. ((in_low (length p.joints) w i).0 (c.inside i m)).0; closed = c.closed }));
-  groups = λ i. ⊎_elim (λ l. subst (λ x. x ≤ 2) (sym (class_at p i l)) (links_at p s i l).classed) (λ l. subst (λ x. x ≤ 2) (sym (class_past p i l)) (omega arith)) (cases_lt i (length p.joints));
-  beyond = class_past p;
-}
