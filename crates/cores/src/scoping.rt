@@ -1,7 +1,7 @@
 // Taking items out of a scope and putting them back.
 ghost use Rattle.std.specs.Prelude.{◌≡◌, ◌^◌, ◌<◌, ◌≤◌};
 ghost use Rattle.base.specs.Refusals.{outcome};
-ghost use Rattle.itemset.specs.Sets.{full, less};
+ghost use Rattle.itemset.specs.Sets.{full as full_set, less};
 ghost use Rattle.cores.specs.Scopes.{restored, restoring, retired, retiring};
 
 use crate::scope::Scope;
@@ -13,9 +13,17 @@ impl Scope {
     // Every item of a criterion.
     pub fn of<C: Criterion>(criterion: &C) -> Scope
         ensures counts_its_items { result.items ≡ (C.Criterion.meaning criterion.now).count }
-        ensures has_every_item { result.set ≡ full (C.Criterion.meaning criterion.now).count }
+        ensures has_every_item { result.set ≡ full_set (C.Criterion.meaning criterion.now).count }
     {
         let items = criterion.count();
+        Scope::full(items)
+    }
+
+    pub(crate) fn full(items: u32) -> Scope
+        requires { items ≤ 31 }
+        ensures items { result.items ≡ items }
+        ensures set { result.set ≡ full_set items }
+    {
         let set = (1 << items) - 1;
         Scope { items, set }
     }
