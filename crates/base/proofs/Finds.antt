@@ -1,9 +1,9 @@
 -- What stands in the words is read.
-use Rattle.std.proofs.Common.{◌≡◌, ℕ, suc, ◌+◌, ◌<◌, ◌≤◌, Bool, true, cond, ◌&&◌, ltb, List, [], ◌∷◌, ◌++◌, length, get_or, drop, sym, refl, ap, ◌∙◌, append_assoc, append-nil, zero-le, arith, length-drop}
+use Rattle.std.proofs.Common.{◌≡◌, ℕ, suc, ◌+◌, ◌<◌, ◌≤◌, Bool, true, ltb, List, [], ◌∷◌, ◌++◌, length, get_or, drop, sym, refl, ap, ◌∙◌, append_assoc, arith, length-drop}
 use Rattle.std.specs.List.{flat_map}
 use Rattle.std.proofs.lemmas.List.{drop_more}
 use Rattle.std.proofs.lemmas.Bool.{lt-ltb, le-ltb, and_parts, cond-true, cond-false}
-use Rattle.base.specs.Outcomes.{Outcome, accepted, refused}
+use Rattle.base.specs.Outcomes.{accepted, refused}
 use Rattle.base.specs.Sheets.{Read, got, stop, passing, many, whole, all_of}
 use Rattle.base.proofs.Reading.{then_got}
 use Rattle.base.proofs.Tells.{joined_each}

@@ -1,5 +1,5 @@
 -- The numbers of refusals.
-use Rattle.std.proofs.Common.{◌≡◌, ℕ, ◌≤◌, refl, arith}
+use Rattle.std.proofs.Common.{◌≡◌, ◌≤◌, refl, arith}
 use Rattle.base.specs.declared.refusal.Refusal.{Refusal}
 use Rattle.base.specs.declared.refusal.Refusal.TheVariants.{MissingWord, CountTooLarge, WordsLeftOver, BodyWord, JointWord, TooFewPlaces, NoSuchItem, AlreadyOut, AlreadyIn, GetsNo, TooManyCores, OddLength, UnknownKind}
 use Rattle.base.specs.Refusals.{number, index}

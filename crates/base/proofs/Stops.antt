@@ -1,7 +1,7 @@
 -- Where a reading stops.
-use Rattle.std.proofs.Common.{◌≡◌, ℕ, zero, suc, ◌+◌, ◌<◌, ◌≤◌, Bool, true, false, cond, ltb, ◌⊎◌, List, [], ◌∷◌, length, get_or, sym, refl, ap, ◌∙◌, subst, inl, inr, ⊎_elim, arith}
+use Rattle.std.proofs.Common.{◌≡◌, ℕ, zero, suc, ◌+◌, ◌<◌, ◌≤◌, Bool, true, false, cond, ltb, List, [], ◌∷◌, length, get_or, sym, refl, ◌∙◌, subst, arith}
 use Rattle.std.proofs.lemmas.Bool.{ltb-true, ltb-false}
-use Rattle.base.specs.Sheets.{Read, got, stop, and_then, word, passing, many}
+use Rattle.base.specs.Sheets.{Read, got, stop, and_then, passing, many}
 use Rattle.base.proofs.Reading.{then_split, got_same, passing_step}
 
 pub stop_same : {X : Type 0} (m i n k : ℕ) → ◌≡◌ {A = Read X} (stop m i) (stop n k) → (m ≡ n) × (i ≡ k)

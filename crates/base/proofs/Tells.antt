@@ -1,10 +1,10 @@
 -- What was read stood in the words.
-use Rattle.std.proofs.Common.{◌≡◌, ℕ, zero, suc, ◌+◌, ◌<◌, ◌≤◌, Bool, true, false, cond, ◌&&◌, ltb, List, [], ◌∷◌, ◌++◌, length, get_or, drop, sym, refl, ap, ◌∙◌, subst, ap₂, append_assoc, append-nil, arith}
+use Rattle.std.proofs.Common.{◌≡◌, ℕ, zero, suc, ◌≤◌, Bool, true, false, cond, ltb, List, [], ◌∷◌, ◌++◌, length, drop, sym, refl, ap, ◌∙◌, subst, ap₂, append_assoc, arith}
 use Rattle.std.specs.List.{flat_map}
 use Rattle.std.proofs.lemmas.List.{drop_more, drop_all}
 use Rattle.std.proofs.lemmas.Bool.{and_from, ltb-false}
-use Rattle.base.specs.Outcomes.{Outcome, accepted, refused}
-use Rattle.base.specs.Sheets.{Read, got, stop, and_then, passing, many, whole, all_of}
+use Rattle.base.specs.Outcomes.{accepted, refused}
+use Rattle.base.specs.Sheets.{Read, got, stop, passing, many, whole, all_of}
 use Rattle.base.proofs.Reading.{then_split, got_same, passing_step}
 
 -- a part says what stood there, and that it passed a test

@@ -1,10 +1,10 @@
 -- A buffer that is written from the front, or left.
-use Rattle.std.proofs.Common.{◌≡◌, ℕ, ◌+◌, ◌<◌, ◌≤◌, Bool, true, false, cond, leb, List, ◌++◌, length, get_or, drop, set, IfOk, Ok, Err, Result, sym, refl, ap, ◌∙◌, ap₂, arith}
+use Rattle.std.proofs.Common.{◌≡◌, ℕ, ◌+◌, ◌<◌, ◌≤◌, Bool, true, false, cond, leb, List, ◌++◌, length, get_or, drop, set, IfOk, Ok, Err, Result, refl, ap, ◌∙◌, ap₂, arith}
 use lib.Seq.{paste}
 use Rattle.std.proofs.lemmas.List.Edits.{paste_more, paste_all}
 use Rattle.std.proofs.lemmas.Bool.{cond-true, cond-false, le-leb, leb-true, lt-leb}
 use Rattle.base.specs.declared.refusal.Refusal.{Refusal}
-use Rattle.base.specs.Outcomes.{Outcome, accepted, refused}
+use Rattle.base.specs.Outcomes.{accepted, refused}
 use Rattle.base.specs.Refusals.{outcome}
 use Rattle.base.specs.Places.{written, overwritten}
 

@@ -1,5 +1,5 @@
 -- How a buffer is written.
-use Rattle.std.specs.Prelude.{ℕ, Bool, cond, List, ◌++◌, length, drop, nat_le}
+use Rattle.std.specs.Prelude.{ℕ, cond, List, ◌++◌, length, drop, nat_le}
 use Rattle.base.specs.Outcomes.{Outcome, accepted, refused}
 
 -- the answer: how many places are filled, or 8 where there are too few

@@ -1,5 +1,5 @@
 -- What is printed.
-use Rattle.std.proofs.Common.{◌≡◌, ℕ, ◌+◌, ◌-◌, ◌%◌, ◌<◌, ◌≤◌, min, Bool, true, false, cond, ◌&&◌, eqb, leb, ◌⊎◌, List, [], ◌∷◌, ◌++◌, length, get_or, take, drop, IfOk, Ok, Err, MatchBool, filter, Result, sym, refl, ap, ◌∙◌, subst, ap₂, inl, inr, append_assoc, arith}
+use Rattle.std.proofs.Common.{◌≡◌, ℕ, ◌+◌, ◌-◌, ◌%◌, ◌<◌, ◌≤◌, min, Bool, true, false, cond, eqb, leb, ◌⊎◌, List, [], ◌∷◌, ◌++◌, length, get_or, take, drop, IfOk, Ok, Err, MatchBool, filter, Result, sym, refl, ap, ◌∙◌, subst, ap₂, inl, inr, append_assoc, arith}
 use Rattle.std.specs.List.{range_with_len, flat_map}
 use Rattle.std.proofs.lemmas.List.{take_all, take_more, take_rest, flat_map_more, length-replicate}
 use Rattle.std.proofs.lemmas.Bool.{and_from, and_parts, cases_lt, cond-true, cond-false, eq-eqb, le-leb, lt-leb}
@@ -10,7 +10,7 @@ use Rattle.itemset.proofs.Members.{decides_has}
 use Rattle.itemset.proofs.Counts.{same_tests}
 use Rattle.itemset.proofs.Rows.{Mem}
 use Rattle.criterion.specs.Meaning.{Meaning}
-use Rattle.criterion.specs.Cores.{Core, cores}
+use Rattle.criterion.specs.Cores.{cores}
 use Rattle.criterion.proofs.Found.{listed_is, mem_cores, cores_mem}
 use Rattle.cores.specs.Answers.{Chooses, InEvery, Lists}
 use Rattle.joints.specs.Admission.{admission}

@@ -1,5 +1,5 @@
 -- The console's run of two calls.
-use Rattle.std.proofs.Common.{◌≡◌, ℕ, ◌<◌, true, List, [], ◌∷◌, length, get_or, drop, vec_items, Result, Vec, sym, refl, ap, ◌∙◌, subst, arith}
+use Rattle.std.proofs.Common.{◌≡◌, ℕ, true, List, [], ◌∷◌, length, get_or, drop, vec_items, Result, Vec, refl, subst, arith}
 use Rattle.std.specs.declared.alloc.Global.{Global}
 use Rattle.base.specs.declared.refusal.Refusal.{Refusal}
 use Rattle.itemset.specs.Sets.{full}

@@ -1,8 +1,8 @@
 -- Items taken out of a yes set one after another.
 use Rattle.std.proofs.Common.{◌≡◌, ℕ, ◌+◌, ◌^◌, ◌<◌, ◌≤◌, Bool, true, false, cond, ltb, is_ok, Ok, Err, Result, sym, refl, ap, ◌∙◌, subst, ⊎_elim, arith}
-use Rattle.base.specs.Outcomes.{Outcome, accepted, refused}
+use Rattle.base.specs.Outcomes.{accepted}
 use Rattle.base.specs.Refusals.{outcome}
-use Rattle.cores.specs.Scopes.{retired, retiring, size}
+use Rattle.cores.specs.Scopes.{retiring, size}
 use Rattle.base.specs.declared.refusal.Refusal.{Refusal}
 use Rattle.std.proofs.lemmas.Bool.{cases_Bool, cases_eq, cases_lt, both_ways, cond-true, cond-false, cond_both, lt-ltb}
 use Rattle.itemset.specs.Sets.{◌∈◌, ◌⊆◌, less, has}

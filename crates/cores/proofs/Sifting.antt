@@ -1,9 +1,9 @@
 -- The items that lie in every core, one after another.
-use Rattle.std.proofs.Common.{◌≡◌, ℕ, ◌+◌, ◌*◌, ◌%◌, ◌^◌, ◌<◌, ◌≤◌, Bool, true, false, cond, ◌⊎◌, ◌↔◌, sym, refl, ap, ◌∙◌, subst, inl, inr, ⊎_elim, arith}
+use Rattle.std.proofs.Common.{◌≡◌, ℕ, ◌+◌, ◌*◌, ◌%◌, ◌^◌, ◌<◌, ◌≤◌, Bool, true, false, cond, ◌↔◌, sym, ap, ◌∙◌, subst, inl, inr, ⊎_elim, arith}
 use lib.Bits.{bit_or}
 use Rattle.std.proofs.lemmas.Nat.{one_shl}
 use Rattle.std.proofs.lemmas.Bool.{cases_Bool, cases_eq, cases_lt, both_ways, cond-true, cond-false}
-use Rattle.itemset.specs.Sets.{◌∈◌, ◌⊆◌, less, has}
+use Rattle.itemset.specs.Sets.{◌∈◌, less, has}
 use Rattle.criterion.specs.Cores.{Core}
 use Rattle.criterion.specs.Meaning.{Monotone}
 use Rattle.itemset.proofs.Members.{decides_has, in_or, in_one}

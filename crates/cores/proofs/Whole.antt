@@ -1,11 +1,11 @@
 -- The whole row is the list of the cores.
-use Rattle.std.proofs.Common.{◌≡◌, ℕ, zero, ◌-◌, ◌^◌, ◌<◌, ◌≤◌, Bool, true, false, ◌↔◌, List, ◌++◌, length, get_or, take, drop, replicate, Ok, Err, MatchBool, All, Contains, sym, refl, ap, ◌∙◌, subst, ⊎_elim, arith}
+use Rattle.std.proofs.Common.{◌≡◌, ℕ, zero, ◌-◌, ◌^◌, ◌<◌, ◌≤◌, Bool, true, false, ◌↔◌, List, ◌++◌, length, get_or, take, drop, replicate, Ok, Err, MatchBool, Contains, sym, refl, ap, ◌∙◌, subst, ⊎_elim, arith}
 use Rattle.std.specs.List.{range_with_len}
 use Rattle.std.proofs.lemmas.List.FromFn.{length-range_with_len}
 use Rattle.std.proofs.lemmas.List.Elements.{All-nil, All-contains, Contains-get_or}
 use Rattle.std.proofs.lemmas.List.{take-append-drop, length-take-le, take_at, drop_at, length-append, length-replicate}
-use Rattle.std.proofs.lemmas.Bool.{both_ways, cases_Bool}
-use Rattle.itemset.specs.Sets.{◌∈◌, ◌⊆◌}
+use Rattle.std.proofs.lemmas.Bool.{cases_Bool}
+use Rattle.itemset.specs.Sets.{◌⊆◌}
 use Rattle.itemset.specs.Lists.{Rising}
 use Rattle.criterion.specs.Cores.{Core, cores}
 use Rattle.criterion.specs.Meaning.{Monotone}

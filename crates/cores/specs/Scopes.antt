@@ -1,5 +1,5 @@
 -- The scope of an inquiry: n items, of which those in s are in.
-use Rattle.std.specs.Prelude.{ℕ, ◌^◌, Bool, cond, not, ◌&&◌, length, bit_or, nat_lt}
+use Rattle.std.specs.Prelude.{ℕ, ◌^◌, cond, not, ◌&&◌, length, bit_or, nat_lt}
 use Rattle.base.specs.Outcomes.{Outcome, accepted, refused}
 use Rattle.itemset.specs.Sets.{has, less, members}
 

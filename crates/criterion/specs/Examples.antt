@@ -1,5 +1,5 @@
 -- Cores that compute.
-use Rattle.std.specs.Prelude.{◌≡◌, ℕ, Bool, ◌||◌, List, [], ◌∷◌}
+use Rattle.std.specs.Prelude.{◌≡◌, ℕ, Bool, ◌||◌, [], ◌∷◌}
 use Rattle.itemset.specs.Sets.{within, less}
 use Rattle.criterion.specs.Cores.{cores}
 

@@ -1,5 +1,5 @@
 -- What the adapters over another criterion mean.
-use Rattle.std.specs.Prelude.{ℕ, Bool, true, false, cond, not, ◌&&◌, List, [], ◌∷◌}
+use Rattle.std.specs.Prelude.{ℕ, Bool, true, cond, not, ◌&&◌, List, [], ◌∷◌}
 use Rattle.criterion.specs.declared.remembered.Remembered.{Remembered}
 use Rattle.criterion.specs.Meaning.{Meaning}
 

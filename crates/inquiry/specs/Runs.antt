@@ -1,7 +1,6 @@
 -- A run of calls, and what each of them answers, told from the calls before it alone.
-use Rattle.std.specs.Prelude.{◌≡◌, ℕ, ◌<◌, ◌≤◌, Bool, true, List, length, take, drop, vec_items, fold, Result, slice_index_or}
+use Rattle.std.specs.Prelude.{◌≡◌, ℕ, ◌<◌, ◌≤◌, true, List, length, take, drop, vec_items, fold, Result, slice_index_or}
 use Rattle.base.specs.declared.refusal.Refusal.{Refusal}
-use Rattle.base.specs.Outcomes.{Outcome}
 use Rattle.base.specs.Refusals.{outcome}
 use Rattle.itemset.specs.Sets.{full}
 use Rattle.criterion.specs.Meaning.{Meaning}

@@ -1,5 +1,5 @@
 -- The members of sets, bit by bit.
-use Rattle.std.proofs.Common.{◌≡◌, ℕ, zero, suc, ◌+◌, ◌-◌, ◌*◌, ◌/◌, ◌%◌, ◌^◌, ◌<◌, ◌≤◌, min, max, Bool, true, false, ◌⊎◌, ◌↔◌, Decides, sym, refl, ap, ◌∙◌, subst, inl, inr, ⊎_elim, le_refl, mod-eq_of_lt, mul-div_cancel, add-one, one-add, arith, pow_pos, pow_mono, pow-add, shr-shr}
+use Rattle.std.proofs.Common.{◌≡◌, ℕ, zero, suc, ◌+◌, ◌-◌, ◌*◌, ◌/◌, ◌%◌, ◌^◌, ◌<◌, ◌≤◌, min, max, ◌⊎◌, Decides, sym, refl, ap, ◌∙◌, subst, inl, inr, ⊎_elim, le_refl, mod-eq_of_lt, mul-div_cancel, add-one, one-add, arith, pow_pos, pow_mono, pow-add, shr-shr}
 use native.Mathlib.Nat.{div_self, div-eq_of_lt, zero-div}
 use lib.Arith.{half_le}
 use lib.Bits.{bit_and, bit_or, and_step, and_shr, and_le_l, and_le_r, and_mask, or_step, or_shr}

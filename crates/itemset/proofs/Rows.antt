@@ -1,7 +1,6 @@
 -- Rising lists of numbers, by their members.
-use Rattle.std.proofs.Common.{◌≡◌, ℕ, zero, suc, ◌+◌, ◌<◌, ◌≤◌, Bool, true, false, cond, ◌⊎◌, ◌↔◌, List, [], ◌∷◌, length, get_or, All, Contains, filter, sym, refl, ap, ◌∙◌, subst, ap₂, inl, inr, ⊎_elim, suc-le-suc, zero-le, le_of_suc-le-suc, arith}
+use Rattle.std.proofs.Common.{◌≡◌, ℕ, zero, suc, ◌+◌, ◌<◌, ◌≤◌, Bool, true, false, cond, ◌⊎◌, List, [], ◌∷◌, length, get_or, All, Contains, filter, sym, refl, ap, ◌∙◌, subst, ap₂, inl, inr, ⊎_elim, suc-le-suc, zero-le, le_of_suc-le-suc, arith}
 use Rattle.std.specs.List.{range_with_len}
-use Rattle.std.proofs.lemmas.List.{get_or_default}
 use Rattle.std.proofs.lemmas.List.Elements.{All-nil, All-cons, All-head, All-tail}
 use Rattle.std.proofs.lemmas.Bool.{cases_eq}
 use Rattle.itemset.specs.Lists.{Rising}
@@ -120,7 +119,7 @@ kept_passes p (y ∷ ys) x m = go (p y) refl (kept_passes p ys x) m
     go true h rest (inr k) = rest k
     go false h rest k = rest k
 
--- ---- the laws, of what `Has` says
+-- ---- the laws, of what `Contains` says
 
 pub rising_le : RisingLe
 rising_le xs ys p q f = mem_le xs ys p q (λ x m. mem_from_has x ys (f x (has_from_mem x xs m)))

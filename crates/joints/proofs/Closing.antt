@@ -1,17 +1,13 @@
 -- Closed parts: stripping keeps them.
-use Rattle.std.specs.Prelude.{◌≡◌, ℕ, ◌+◌, ◌%◌, ◌^◌, ◌<◌, ◌≤◌, Bool, true, false, not, ◌&&◌, ◌||◌, ◌⊎◌, ◌↔◌, List, map, length, ◌==◌, slice_index_or, refl}
-use Rattle.std.proofs.Common.{sym, ap, subst, ◌∙◌, inl, inr, ⊎_elim, arith}
+use Rattle.std.specs.Prelude.{◌≡◌, ℕ, ◌<◌, ◌≤◌, true, false, not, length, ◌==◌, refl}
+use Rattle.std.proofs.Common.{sym, ap, ◌∙◌, ⊎_elim, arith}
 use Rattle.std.proofs.lemmas.Bool.{and_from, and_parts, or_cases, or_left, or_right, cases_lt, cases_eq, eq-eqb, eqb-true, eqb-false, ne_eqb, not-true, not_from_false, both_ways}
-use Rattle.std.proofs.lemmas.List.{get_or-map, get_or_past, length-map}
-use Rattle.itemset.specs.Sets.{◌∈◌, ◌⊆◌, has, within}
-use Rattle.itemset.specs.Counting.{some, every}
-use Rattle.itemset.proofs.Members.{decides_within, decides_has, subset_le, below, in_low}
-use Rattle.itemset.proofs.Counts.{count_up, count_pos, count_some, some_right, every_right, same_tests}
-use Rattle.criterion.specs.Meaning.{Lawful}
-use Rattle.base.proofs.Tests.{all_at}
-use Rattle.joints.specs.Plans.{Joint, Plan, links, sound, joint_at, no_joint}
-use Rattle.joints.specs.Closed.{touches, meets, touching, ClosedPart, no_loose_body, has_closed_part, joint_sets, Stays}
-use Rattle.joints.specs.Laws.{SearchRight, StripRight, SetsLawful}
+use Rattle.itemset.specs.Sets.{◌∈◌, ◌⊆◌, has}
+use Rattle.itemset.proofs.Members.{decides_has, subset_le}
+use Rattle.itemset.proofs.Counts.{count_up, count_pos, count_some, same_tests}
+use Rattle.joints.specs.Plans.{Joint, Plan, sound, joint_at}
+use Rattle.joints.specs.Closed.{touches, meets, touching, ClosedPart, has_closed_part, Stays}
+use Rattle.joints.specs.Laws.{StripRight}
 use Rattle.joints.specs.Lawful.{links_at, search_right}
 
 -- ---- touching

@@ -1,7 +1,6 @@
 -- The plans of the code.
-use Rattle.std.proofs.Common.{◌≡◌, ℕ, suc, ◌+◌, ◌-◌, ◌^◌, ◌<◌, ◌≤◌, Bool, true, ◌&&◌, List, [], ◌∷◌, ◌++◌, map, length, get_or, take, replicate, sym, refl, ap, ◌∙◌, subst, arith}
-use Rattle.std.proofs.lemmas.List.{get_or-map, map_more, length-map, length-take-le, length-append, length-replicate, get_or_append_left, get_or-append_right, get_or-replicate}
-use Rattle.base.specs.Sheets.{all_of}
+use Rattle.std.proofs.Common.{◌≡◌, ℕ, suc, ◌+◌, ◌-◌, ◌^◌, ◌<◌, ◌≤◌, true, List, [], ◌∷◌, ◌++◌, map, length, get_or, replicate, sym, ap, ◌∙◌, subst, arith}
+use Rattle.std.proofs.lemmas.List.{get_or-map, length-map, length-append, length-replicate, get_or_append_left, get_or-append_right, get_or-replicate}
 use Rattle.base.proofs.Tests.{all_at, all_push}
 use Rattle.joints.specs.Plans.{Joint, Plan, links, sheet, sound, word}
 use Rattle.joints.specs.Admission.{joint}

@@ -1,5 +1,5 @@
 -- Stripping: the bodies touched once and more than once, and the joints that stay.
-use Rattle.std.proofs.Common.{◌≡◌, ℕ, ◌+◌, ◌-◌, ◌*◌, ◌%◌, ◌^◌, ◌<◌, ◌≤◌, Bool, true, false, cond, not, ◌&&◌, ◌||◌, eqb, ◌⊎◌, ◌↔◌, length, sym, refl, ap, ◌∙◌, subst, inl, inr, ⊎_elim, arith}
+use Rattle.std.proofs.Common.{◌≡◌, ℕ, ◌+◌, ◌-◌, ◌*◌, ◌%◌, ◌^◌, ◌<◌, ◌≤◌, true, false, cond, eqb, ◌⊎◌, ◌↔◌, length, sym, refl, ap, ◌∙◌, subst, inl, inr, ⊎_elim, arith}
 use lib.Bits.{bit_and, bit_or, or_lt, and_lt}
 use Rattle.std.proofs.lemmas.Bool.{and_from, and_parts, and_left, cond-true, cond-false, cases_Bool, both_ways, or_cases, or_left, or_right, eqb-true, eq-eqb, cases_lt, cases_eq}
 use Rattle.std.proofs.lemmas.Nat.{one_shl, pow_below}

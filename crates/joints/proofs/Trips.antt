@@ -1,15 +1,15 @@
 -- From plans to sheets and back.
-use Rattle.std.specs.Prelude.{◌≡◌, ℕ, zero, suc, ◌+◌, ◌-◌, ◌<◌, ◌≤◌, Bool, true, false, cond, ◌&&◌, leb, ◌⊎◌, List, [], ◌∷◌, ◌++◌, map, length, drop, replicate, ◌≢◌, nat_le, nat_lt, refl}
+use Rattle.std.specs.Prelude.{◌≡◌, ℕ, zero, suc, ◌+◌, ◌-◌, ◌<◌, ◌≤◌, Bool, true, false, cond, leb, ◌⊎◌, List, [], ◌∷◌, ◌++◌, map, length, drop, replicate, ◌≢◌, nat_le, nat_lt, refl}
 use Rattle.std.proofs.Common.{sym, ap, ap₂, subst, ◌∙◌, append_assoc, append-nil, inl, inr, ⊎_elim, zero-le, arith, length-drop}
 use Rattle.std.proofs.lemmas.List.{length-append, length-map, length-replicate}
 use Rattle.std.proofs.lemmas.Bool.{and_from, and_parts, le-leb, leb-true, lt-ltb, ltb-true, eqb-true, cond-true}
-use Rattle.base.specs.Outcomes.{Outcome, accepted, refused}
-use Rattle.base.specs.Sheets.{Read, got, stop, and_then, all_of, counted, many, passing, whole}
+use Rattle.base.specs.Outcomes.{accepted, refused}
+use Rattle.base.specs.Sheets.{Read, got, stop, all_of, counted, many, passing, whole}
 use Rattle.base.proofs.Reading.{then_got, then_split, got_same}
 use Rattle.base.proofs.Tells.{passing_tells, words_tell, whole_tells}
 use Rattle.base.proofs.Finds.{At, passing_finds, words_find, whole_finds}
 use Rattle.base.proofs.Stops.{Placed, passing_placed, then_placed, got_placed, many_placed}
-use Rattle.joints.specs.Plans.{Joint, Plan, links, sheet, sound, word}
+use Rattle.joints.specs.Plans.{Plan, links, sheet, sound, word}
 use Rattle.joints.specs.Admission.{joint, clear, fine, plan_at, admission}
 use Rattle.joints.specs.Lawful.{sound_parts}
 use Rattle.joints.specs.RoundTrip.{SheetOfAdmitted, AdmissionOfSheet, RefusedWhere, LeftOver}

@@ -1,11 +1,11 @@
 -- A joint and its word.
-use Rattle.std.specs.Prelude.{◌≡◌, ℕ, ◌+◌, ◌*◌, ◌/◌, ◌%◌, ◌^◌, ◌<◌, ◌≤◌, Bool, true, not, ◌&&◌, List, [], ◌∷◌, map, ◌==◌, nat_lt, refl}
-use Rattle.std.proofs.Common.{sym, ap, ap₂, ◌∙◌, arith}
-use Rattle.std.proofs.lemmas.Bool.{and_from, and_parts, leb-true, lt-ltb, ltb-true, eqb-false, not-true}
+use Rattle.std.specs.Prelude.{◌≡◌, ℕ, ◌+◌, ◌*◌, ◌/◌, ◌%◌, ◌^◌, ◌<◌, ◌≤◌, true, List, [], ◌∷◌, map, nat_lt, refl}
+use Rattle.std.proofs.Common.{ap, ap₂, ◌∙◌, arith}
+use Rattle.std.proofs.lemmas.Bool.{and_from, and_parts, lt-ltb, ltb-true}
 use Rattle.base.specs.Sheets.{all_of}
 use Rattle.joints.specs.Plans.{Joint, links, word}
 use Rattle.joints.specs.Admission.{joint, fine}
-use Rattle.joints.specs.Lawful.{Links, links_parts}
+use Rattle.joints.specs.Lawful.{links_parts}
 
 module _ (f s c : ℕ) (p : f < 32) (q : s < 32) (r : c ≤ 2) where
   first_is : (f + 256 * s + 65536 * c) % 256 ≡ f

@@ -1,5 +1,5 @@
 -- What the fields of a plan of the code stand for.
-use Rattle.std.specs.Prelude.{ℕ, List, map, vec_items, Vec}
+use Rattle.std.specs.Prelude.{ℕ, map, vec_items, Vec}
 use Rattle.std.specs.declared.alloc.Global.{Global}
 use Rattle.joints.specs.declared.joint.Joint.{Joint}
 use Rattle.joints.specs.Plans as pure

@@ -1,16 +1,15 @@
 -- Joint sets keep the law of criteria. A proof: it stands among the definitions because the `impl` of the trait cites it.
-use Rattle.std.specs.Prelude.{◌≡◌, ℕ, ◌%◌, ◌^◌, ◌<◌, ◌≤◌, Bool, true, not, ◌&&◌, map, length, ◌==◌, nat_le, nat_lt, slice_index_or, refl}
+use Rattle.std.specs.Prelude.{◌≡◌, ℕ, ◌%◌, ◌^◌, ◌<◌, ◌≤◌, Bool, true, not, ◌&&◌, map, length, ◌==◌, nat_le, nat_lt, slice_index_or}
 use Rattle.std.proofs.Common.{sym, subst, ⊎_elim, arith}
 use Rattle.std.proofs.lemmas.Bool.{and_from, and_parts, cases_lt, eqb-false, leb-true, ltb-true, ne_eqb, not-true, not_from_false}
 use Rattle.std.proofs.lemmas.List.{get_or-map, get_or_past, length-map}
-use Rattle.itemset.specs.Sets.{◌∈◌, ◌⊆◌, has, within}
+use Rattle.itemset.specs.Sets.{within}
 use Rattle.itemset.proofs.Members.{decides_within, below, in_low}
 use Rattle.itemset.proofs.Counts.{some_right, every_right, same_tests}
 use Rattle.base.specs.Sheets.{all_of}
 use Rattle.base.proofs.Tests.{all_at}
-use Rattle.criterion.specs.Meaning.{Lawful}
 use Rattle.joints.specs.Plans.{Joint, Plan, links, sound, joint_at, no_joint}
-use Rattle.joints.specs.Closed.{touching, ClosedPart, no_loose_body, has_closed_part, joint_sets}
+use Rattle.joints.specs.Closed.{touching, ClosedPart, no_loose_body, has_closed_part}
 use Rattle.joints.specs.Laws.{SearchRight, SetsLawful}
 
 -- the parts of a sound plan

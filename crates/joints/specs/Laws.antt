@@ -1,5 +1,5 @@
 -- What holds of closed parts, and the worked plan.
-use Rattle.std.specs.Prelude.{◌≡◌, ℕ, Bool, true, ◌↔◌, List, [], ◌∷◌}
+use Rattle.std.specs.Prelude.{◌≡◌, ℕ, true, ◌↔◌, [], ◌∷◌}
 use Rattle.itemset.specs.Sets.{◌∈◌, less}
 use Rattle.base.specs.Outcomes.{accepted}
 use Rattle.criterion.specs.Meaning.{Lawful}

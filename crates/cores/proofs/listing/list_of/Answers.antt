@@ -1,4 +1,4 @@
-use Rattle.std.proofs.Common.{◌≡◌, ℕ, List, length, replicate, Ok, sym, refl, ap, ◌∙◌, subst, arith, rules}
+use Rattle.std.proofs.Common.{◌≡◌, length, replicate, Ok, subst, arith, rules}
 use Rattle.std.proofs.lemmas.Nat.{pow_below}
 use Rattle.cores.specs.Rows.{Row, Explored}
 use Rattle.cores.proofs.Whole.{row_few, lists_no, lists_full, lists_all}

@@ -1,7 +1,6 @@
-use Rattle.std.proofs.Common.{◌≡◌, ◌+◌, ◌<◌, ◌≤◌, get_or, take, Some, sym, ◌∙◌, subst, arith}
+use Rattle.std.proofs.Common.{◌+◌, get_or, take, Some, sym, ◌∙◌, subst, arith}
 use Rattle.itemset.specs.Sets.{◌⊆◌}
 use Rattle.itemset.proofs.Members.{sub_of_and, and_of_sub}
-use Rattle.cores.specs.Rows.{spare}
 use Rattle.cores.proofs.Picking.{Best, best_none, best_past, best_here, best_stays, fewest_zero, best_all, spare_is}
 use Rattle.cores.proofs.listing.pick.Goals as goal
 use Rattle.cores.proofs.listing.pick.Goals.{then-spare-fewest, else-spare-fewest}

@@ -1,4 +1,4 @@
-use Rattle.std.proofs.Common.{◌<◌, length, take, All, sym, refl, ◌∙◌, subst, arith}
+use Rattle.std.proofs.Common.{◌<◌, length, take, All, sym, refl, subst, arith}
 use Rattle.std.proofs.lemmas.List.Elements.{All-contains}
 use Rattle.criterion.specs.Cores.{Core}
 use Rattle.itemset.proofs.Members.{subset_le}

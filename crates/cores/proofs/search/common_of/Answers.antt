@@ -1,4 +1,4 @@
-use Rattle.std.proofs.Common.{◌≡◌, ◌+◌, sym, refl, ap, ◌∙◌, subst, arith}
+use Rattle.std.proofs.Common.{◌+◌, sym, refl, ap, ◌∙◌, subst, arith}
 use Rattle.cores.proofs.Judged.{judged}
 use Rattle.cores.proofs.Shrinking.{refused_out}
 use Rattle.cores.proofs.Sifting.{Sifted, sift_out, sift_can_go, sift_needed, sifted_all}

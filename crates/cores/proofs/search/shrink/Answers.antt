@@ -1,4 +1,4 @@
-use Rattle.std.proofs.Common.{◌≡◌, ◌+◌, true, false, sym, ap, ◌∙◌, subst, arith}
+use Rattle.std.proofs.Common.{◌+◌, sym, ap, ◌∙◌, subst, arith}
 use Rattle.itemset.specs.Sets.{◌⊆◌}
 use Rattle.criterion.specs.Meaning.{Meaning}
 use Rattle.cores.proofs.Shrinking.{Shrinking, turn_goes, turn_stays, refused_out, cut_sub, shrinking_past, shrinking_all}

@@ -1,4 +1,4 @@
-use Rattle.std.proofs.Common.{◌≡◌, ◌+◌, sym, ap, ◌∙◌, subst, arith}
+use Rattle.std.proofs.Common.{◌+◌, sym, ap, ◌∙◌, subst, arith}
 use Rattle.criterion.specs.Meaning.{Meaning}
 use Rattle.cores.proofs.Judged.{judged}
 use Rattle.cores.proofs.Shrinking.{refused_out}

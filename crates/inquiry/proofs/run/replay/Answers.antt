@@ -1,10 +1,10 @@
-use Rattle.std.proofs.Common.{◌≡◌, ℕ, ◌≤◌, List, [], length, take, drop, vec_items, vec_len, vec_capacity, sym, refl, ap, ◌∙◌, subst, arith}
+use Rattle.std.proofs.Common.{◌≡◌, ℕ, ◌≤◌, List, [], length, take, drop, vec_items, vec_len, sym, refl, ap, ◌∙◌, subst, arith}
 use Rattle.std.specs.Vec.Iter.{into_iter_items}
 use Rattle.std.proofs.lemmas.List.{take_all, drop_all, nil_from_length}
 use Rattle.itemset.specs.Sets.{full}
 use Rattle.criterion.specs.Meaning.{Meaning}
 use Rattle.inquiry.specs.declared.calls.Call.{Call}
-use Rattle.inquiry.specs.Runs.{Made, Replayed}
+use Rattle.inquiry.specs.Runs.{Replayed}
 use Rattle.inquiry.proofs.Replaying.{Going, going_none, going_turn, going_all, behind_kept, behind_more}
 use Rattle.inquiry.proofs.run.replay.Goals as goal
 

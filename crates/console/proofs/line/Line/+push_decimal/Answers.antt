@@ -1,4 +1,4 @@
-use Rattle.std.proofs.Common.{◌≡◌, sym, refl, ap, ◌∙◌, arith}
+use Rattle.std.proofs.Common.{arith}
 use Rattle.console.specs.Views.{text_of}
 use Rattle.console.proofs.Texts.{digits_more, digit_only, length_step, length_digit}
 use Rattle.console.proofs.line.Line.+push_decimal.Goals as goal

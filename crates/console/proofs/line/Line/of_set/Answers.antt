@@ -1,4 +1,4 @@
-use Rattle.std.proofs.Common.{◌≡◌, ◌+◌, sym, refl, ap, ◌∙◌, subst, arith}
+use Rattle.std.proofs.Common.{◌+◌, sym, ◌∙◌, subst, arith}
 use Rattle.console.specs.Views.{text_of}
 use Rattle.console.proofs.Texts.{Going, going_none, going_skip, going_add, going_all}
 use Rattle.console.proofs.line.Line.of_set.Goals as goal

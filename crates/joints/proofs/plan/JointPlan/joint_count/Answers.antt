@@ -1,4 +1,4 @@
-use Rattle.std.proofs.Common.{◌≡◌, length, vec_items, sym, subst, arith}
+use Rattle.std.proofs.Common.{◌≡◌, length, vec_items, arith}
 use Rattle.std.proofs.lemmas.List.{length-map}
 use Rattle.joints.specs.Held.{joint_of}
 use Rattle.joints.specs.Views.{plan_of}

@@ -1,4 +1,4 @@
-use Rattle.std.proofs.Common.{◌≡◌, ℕ, ◌+◌, length, sym, ◌∙◌, arith}
+use Rattle.std.proofs.Common.{◌≡◌, ◌+◌, length, sym, ◌∙◌, arith}
 use Rattle.joints.specs.Views.{plan_of}
 use Rattle.joints.proofs.Stripping.{tally_none, tally_hit, tally_miss, tally_all, tally_same}
 use Rattle.joints.proofs.plan.JointPlan.loose_bodies.Goals as goal

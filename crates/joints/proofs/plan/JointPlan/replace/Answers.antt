@@ -1,9 +1,8 @@
-use Rattle.std.proofs.Common.{◌≡◌, ℕ, ◌<◌, ◌≤◌, true, List, [], ◌∷◌, ◌++◌, map, length, get_or, take, vec_items, sym, ap, ◌∙◌, subst, ap₂, arith}
+use Rattle.std.proofs.Common.{◌≡◌, ℕ, List, [], ◌∷◌, ◌++◌, map, length, take, vec_items, sym, ap, ◌∙◌, ap₂, arith}
 use Rattle.std.proofs.lemmas.List.{length-map, length-take-le, map_more, take_all}
 use Rattle.joints.specs.Admission.{joint}
 use Rattle.joints.specs.Held.{joint_of}
 use Rattle.joints.specs.Plans.{Joint, Plan, links}
-use Rattle.joints.specs.Views.{plan_of}
 use Rattle.joints.proofs.Plans.{draft_bits, draft_few, draft_links}
 use Rattle.joints.proofs.plan.JointPlan.replace.Goals as goal
 

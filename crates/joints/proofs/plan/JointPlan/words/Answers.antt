@@ -1,4 +1,4 @@
-use Rattle.std.proofs.Common.{sym, arith}
+use Rattle.std.proofs.Common.{arith}
 use Rattle.joints.specs.Views.{plan_of}
 use Rattle.joints.proofs.Plans.{length_sheet}
 use Rattle.joints.proofs.plan.JointPlan.words.Goals as goal

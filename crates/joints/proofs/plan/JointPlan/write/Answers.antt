@@ -1,4 +1,4 @@
-use Rattle.std.proofs.Common.{◌≡◌, ℕ, ◌≤◌, length, sym, refl, ap, ◌∙◌, arith}
+use Rattle.std.proofs.Common.{◌≡◌, ◌≤◌, length, sym, ap, ◌∙◌, arith}
 use Rattle.base.specs.Outcomes.{accepted}
 use Rattle.base.proofs.Writing.{pasted_more, pasted_all, written_ok, overwritten_ok, written_short, overwritten_short}
 use Rattle.joints.specs.Plans.{sheet}

@@ -1,4 +1,4 @@
-use Rattle.std.proofs.Common.{◌≡◌, not, eqb, sym, refl, ap, ◌∙◌, subst, arith}
+use Rattle.std.proofs.Common.{◌≡◌, not, eqb, sym, refl, ◌∙◌, subst, arith}
 use Rattle.itemset.specs.Sets.{◌∈◌}
 use Rattle.itemset.proofs.Members.{subset_le}
 use Rattle.joints.specs.Closed.{has_closed_part}

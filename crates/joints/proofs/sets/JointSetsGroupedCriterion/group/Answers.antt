@@ -1,4 +1,4 @@
-use Rattle.std.proofs.Common.{◌≡◌, ◌<◌, ◌≤◌, length, sym, ap, ◌∙◌, arith}
+use Rattle.std.proofs.Common.{◌<◌, ◌≤◌, length, sym, ap, ◌∙◌, arith}
 use Rattle.joints.specs.Views.{plan_of}
 use Rattle.joints.specs.Lawful.{class_at, class_past}
 use Rattle.joints.proofs.sets.JointSetsGroupedCriterion.group.Goals as goal
