@@ -5,7 +5,7 @@ ghost use Rattle.base.specs.Refusals.{outcome};
 ghost use Rattle.joints.specs.Admission.{admission};
 ghost use Rattle.joints.specs.Plans.{empty};
 ghost use Rattle.joints.specs.Views.{plan_of};
-ghost use Rattle.console.specs.Response.{answered, replied, reply as replyTo, response};
+ghost use Rattle.console.specs.Response.{answered, replied, reply as reply_to, response};
 
 use crate::console::Console;
 use crate::input::read_words;
@@ -76,7 +76,7 @@ impl Console {
     // The text of the response to the bytes.
     fn answer(self, bytes: &[u8]) -> Vec<u8>
         requires { length bytes.now ≤ 24656 }
-        ensures { result.items ≡ replyTo bytes.now }
+        ensures { result.items ≡ reply_to bytes.now }
     {
         let Console {
             mut words,

@@ -1,4 +1,4 @@
--- What the calls of an inquiry answer, by the meaning m of its criterion and its scope s.
+-- What calls on a scope s answer, by the meaning m of its criterion.
 use Rattle.std.specs.Prelude.{◌≡◌, ℕ, ◌-◌, ◌^◌, ◌<◌, ◌≤◌, Bool, true, false, ◌↔◌, List, length, take, drop, replicate, Ok, Err, MatchBool, Contains, Result, nat_lt}
 use Rattle.base.specs.declared.refusal.Refusal.{Refusal}
 use Rattle.base.specs.Refusals.{number}

@@ -1,4 +1,4 @@
--- The scope of an inquiry: n items, of which those in s are in.
+-- The scope of a criterion: n items, of which those in s are in.
 use Rattle.std.specs.Prelude.{ℕ, ◌^◌, cond, not, ◌&&◌, length, bit_or, nat_lt}
 use Rattle.base.specs.Outcomes.{Outcome, accepted, refused}
 use Rattle.itemset.specs.Sets.{has, less, members}

@@ -1,7 +1,7 @@
 // Joints in the words of a sheet.
 ghost use Rattle.std.specs.Prelude.{◌≡◌, ◌^◌, ◌<◌};
 ghost use Rattle.base.specs.Refusals.{index as index_of, number as number_of};
-ghost use Rattle.joints.specs.Admission.{clear, fine, joint as jointIn};
+ghost use Rattle.joints.specs.Admission.{clear, fine, joint as joint_in};
 ghost use Rattle.joints.specs.Held.{joint_of};
 ghost use Rattle.joints.specs.Plans.{links as joins, word as word_of};
 
@@ -12,7 +12,7 @@ impl Joint {
     // The joint that a word below 2^24 stands for.
     pub(crate) fn unpacked(word: u64) -> Joint
         requires { word < 2 ^ 24 }
-        ensures { joint_of result ≡ jointIn word }
+        ensures { joint_of result ≡ joint_in word }
     {
         Joint {
             first: (word % 256) as u8,
