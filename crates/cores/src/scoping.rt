@@ -19,6 +19,7 @@ impl Scope {
         Scope::full(items)
     }
 
+    // So many items, and every one in.
     pub(crate) fn full(items: u32) -> Scope
         requires { items ≤ 31 }
         ensures items { result.items ≡ items }

@@ -1,4 +1,4 @@
--- Read Plans first, then Admission and RoundTrip (the sheet), then Closed (the verdict) and Laws.
+-- Read Plans first, then Admission and RoundTrip (the sheet), then Closed (the verdict) and Laws; Lawful is a proof.
 pub mod Plans
 pub mod Admission
 pub mod RoundTrip
