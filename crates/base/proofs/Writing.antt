@@ -1,23 +1,27 @@
 -- A buffer that is written from the front, or left.
-use Rattle.std.proofs.Common.{◌≡◌, ℕ, ◌+◌, ◌<◌, ◌≤◌, Bool, true, false, cond, leb, List, ◌++◌, length, get_or, drop, set, IfOk, Ok, Err, Result, refl, ap, ◌∙◌, ap₂, arith}
-use lib.Seq.{paste}
-use Rattle.std.proofs.lemmas.List.Edits.{paste_more, paste_all}
+use Rattle.std.proofs.Common.{◌≡◌, ℕ, ◌+◌, ◌<◌, ◌≤◌, Bool, true, false, cond, leb, List, [], ◌∷◌, ◌++◌, length, take, drop, set, IfOk, Ok, Err, Result, sym, refl, ap, ◌∙◌, ap₂, append_assoc, arith}
+use lib.Seq.{paste, take-append_seam}
+use Rattle.std.proofs.lemmas.List.{length-append}
+use Rattle.std.proofs.lemmas.List.Edits.{paste_more, paste_all, paste_none}
+use Rattle.std.proofs.lemmas.Slice.{drop-append-drop}
 use Rattle.std.proofs.lemmas.Bool.{cond-true, cond-false, le-leb, leb-true, lt-leb}
 use Rattle.base.specs.declared.refusal.Refusal.{Refusal}
 use Rattle.base.specs.Outcomes.{accepted, refused}
 use Rattle.base.specs.Refusals.{outcome}
 use Rattle.base.specs.Places.{written, overwritten}
 
--- one more place
-pub pasted_more : (d s ps : List ℕ) (i v : ℕ) → ps ≡ paste d 0 s i → v ≡ get_or s i 0 → i < length d → i < length s → set ps i v ≡ paste d 0 s (i + 1)
-pasted_more d s ps i v e f p q =
-    let z : i ≡ 0 + i = omega arith in
-    ap₂ (λ (xs : List ℕ) (x : ℕ). set xs i x) e f ∙ ap (λ (k : ℕ). set (paste d 0 s i) k (get_or s i 0)) z ∙ paste_more d 0 s i 0 (omega arith) q
+-- t is written behind s, which stands in front of what was there
+pub front_paste : (d now s t : List ℕ) (at n : ℕ) → now ≡ s ++ drop (length s) d → at ≡ length s → n ≡ length t → paste now at t n ≡ (s ++ t) ++ drop (length (s ++ t)) d
+front_paste d now s t at n e a b =
+    let head : take at now ≡ s = ap₂ (λ (k : ℕ) (xs : List ℕ). take k xs) a e ∙ take-append_seam s (drop (length s) d) in
+    let tail : drop (at + n) now ≡ drop (length (s ++ t)) d = ap (drop (at + n)) e ∙ drop-append-drop (length s) d s (at + n) (omega (arith, a)) refl ∙ ap (λ (k : ℕ). drop k d) (omega (arith, a, b, length-append s t)) in
+    paste_all now at t n b ∙ ap₂ (λ (xs ys : List ℕ). xs ++ (t ++ ys)) head tail ∙ sym (append_assoc s t (drop (length (s ++ t)) d))
 
-pub pasted_all : (d s ps : List ℕ) (i : ℕ) → ps ≡ paste d 0 s i → i ≡ length s → ps ≡ s ++ drop (length s) d
-pasted_all d s ps i e f =
-    let z : 0 + length s ≡ length s = omega arith in
-    e ∙ ap (paste d 0 s) f ∙ paste_all d 0 s (length s) refl ∙ ap (λ (k : ℕ). s ++ drop k d) z
+-- one word is
+pub front_set : (d now s : List ℕ) (at v : ℕ) → now ≡ s ++ drop (length s) d → at ≡ length s → at < length now → set now at v ≡ (s ++ v ∷ []) ++ drop (length (s ++ v ∷ [])) d
+front_set d now s at v e a l =
+    let z : at ≡ at + 0 = omega arith in
+    ap₂ (λ (xs : List ℕ) (k : ℕ). set xs k v) (paste_none now at (v ∷ [])) z ∙ paste_more now at (v ∷ []) 0 0 (omega arith) (omega arith) ∙ front_paste d now s (v ∷ []) at 1 e a refl
 
 module _ {X : Type 0} (text places : List X) where
   -- there is room

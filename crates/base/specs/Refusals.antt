@@ -1,5 +1,5 @@
 -- The refusals of the code by their numbers.
-use Rattle.std.specs.Prelude.{ℕ, Ok, Err, Result}
+use Rattle.std.specs.Prelude.{ℕ, List, ◌++◌, Ok, Err, Result, codes, decimal}
 use Rattle.base.specs.declared.refusal.Refusal.{Refusal}
 use Rattle.base.specs.declared.refusal.Refusal.TheVariants.{MissingWord, CountTooLarge, WordsLeftOver, BodyWord, JointWord, TooFewPlaces, NoSuchItem, AlreadyOut, AlreadyIn, GetsNo, TooManyCores, OddLength, UnknownKind}
 use Rattle.base.specs.Outcomes.{Outcome, accepted, refused}
@@ -34,6 +34,10 @@ index GetsNo = 0
 index TooManyCores = 0
 index OddLength = 0
 index UnknownKind = 0
+
+-- what it prints: `refused`, its number and its index
+abbrev pub message : Refusal → List ℕ
+message r = codes "refused " ++ (decimal (number r) ++ (codes " " ++ decimal (index r)))
 
 -- what the code answered, with its value seen through a view
 abbrev pub outcome : {X Y : Type 0} → (Y → X) → Result Y Refusal → Outcome X

@@ -1,10 +1,13 @@
-// The number of a refusal, and the index that it carries.
-ghost use Rattle.std.specs.Prelude.{◌≡◌};
-ghost use Rattle.base.specs.Refusals.{index as index_of, number as number_of};
+// The number of a refusal, the index that it carries, and its text.
+ghost use Rattle.std.specs.Prelude.{◌≡◌, Some};
+ghost use Rattle.base.specs.Refusals.{index as index_of, message, number as number_of};
 
 use crate::refusal::Refusal;
+use std::error::Error;
+use std::fmt;
 
 impl Refusal {
+    // A number, since that is what is printed.
     pub fn number(&self) -> u32
         ensures numbers_the_case { result ≡ number_of self.now }
     {
@@ -25,24 +28,28 @@ impl Refusal {
         }
     }
 
-    // The index of the word that it is about, 0 where it is about none.
+    // The index of the word that it is about; 0 where it is about none, since an index is printed with every refusal.
     pub fn index(&self) -> usize
         ensures carries_the_index { result ≡ index_of self.now }
     {
         match self {
-            Refusal::MissingWord(index) => *index,
-            Refusal::CountTooLarge(index) => *index,
-            Refusal::WordsLeftOver(index) => *index,
-            Refusal::BodyWord(index) => *index,
-            Refusal::JointWord(index) => *index,
-            Refusal::TooFewPlaces => 0,
-            Refusal::NoSuchItem => 0,
-            Refusal::AlreadyOut => 0,
-            Refusal::AlreadyIn => 0,
-            Refusal::GetsNo => 0,
-            Refusal::TooManyCores => 0,
-            Refusal::OddLength => 0,
-            Refusal::UnknownKind => 0,
+            Refusal::MissingWord(index)
+            | Refusal::CountTooLarge(index)
+            | Refusal::WordsLeftOver(index)
+            | Refusal::BodyWord(index)
+            | Refusal::JointWord(index) => *index,
+            _ => 0,
         }
     }
 }
+
+// `refused`, the number and the index, with a blank between.
+impl fmt::Display for Refusal {
+    ghost output = { λ r. Some (message r) };
+
+    fn fmt<W: fmt::Write>(&self, f: &mut fmt::Formatter<W>) -> fmt::Result {
+        write!(f, "refused {} {}", self.number(), self.index())
+    }
+}
+
+impl Error for Refusal {}

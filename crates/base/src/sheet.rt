@@ -7,7 +7,8 @@ ghost use Rattle.base.specs.Sheets.{all_of, got, many, passing, whole};
 use crate::reader::Reader;
 use crate::refusal::Refusal;
 
-// A test that a word of a sheet has to pass, and the refusal where it does not.
+// A test that a word of a sheet has to pass, and the refusal where it does not. (A closure would need both beside it in every
+// contract.)
 pub trait WordRule {
     ghost test: { Self → ℕ → Bool };
 
@@ -54,18 +55,15 @@ impl<'a> Reader<'a> {
         ensures reads_a_word { told (λ w. w) result self.new.at ≡ passing (R.WordRule.test rule.now) R.WordRule.code (text self.old) self.old.at }
     {
         let index = self.at;
-        if index >= self.words.len() {
-            return Err(Refusal::MissingWord(index));
-        }
-        let word = self.words[index];
+        let word = *self.words.get(index).ok_or(Refusal::MissingWord(index))?;
         if !rule.passes(word) {
             return Err(R::refusal(index));
         }
-        self.at = index + 1;
+        self.at += 1;
         Ok(word)
     }
 
-    // The next n words, all under one rule.
+    // The next n words, all under one rule. The loop repeats; no place is indexed by its counter.
     pub fn words<R: WordRule>(&mut self, rule: &R, n: usize) -> Result<&'a [u64], Refusal>
         ensures same_words { text self.new ≡ text self.old }
         ensures keeps_the_rule { IfOk result (λ s. (all_of (R.WordRule.test rule.now) s.now ≡ true) × (length s.now ≡ n)) }
@@ -73,7 +71,7 @@ impl<'a> Reader<'a> {
         ensures reads_so_many { told (λ s. s.now) result self.new.at ≡ many (passing (R.WordRule.test rule.now) R.WordRule.code (text self.old)) n self.old.at }
     {
         let start = self.at;
-        for done in 0..n {
+        for _done in 0..n {
             self.word(rule)?;
         }
         Ok(&self.words[start..self.at])

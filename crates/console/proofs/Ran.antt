@@ -1,5 +1,5 @@
 -- The console's run of two calls.
-use Rattle.std.proofs.Common.{◌≡◌, ℕ, true, List, [], ◌∷◌, length, get_or, drop, vec_items, Result, Vec, refl, subst, arith}
+use Rattle.std.proofs.Common.{◌≡◌, ℕ, true, List, [], ◌∷◌, ◌++◌, length, get_or, drop, vec_items, Result, Vec, refl, ap, ◌∙◌, subst, arith}
 use Rattle.std.specs.declared.alloc.Global.{Global}
 use Rattle.base.specs.declared.refusal.Refusal.{Refusal}
 use Rattle.itemset.specs.Sets.{full}
@@ -28,18 +28,21 @@ two (a ∷ []) P Q l p q = absurd (omega (arith, l))
 two (a ∷ b ∷ []) P Q l p q = chosen a b P Q (p a) (q b)
 two (a ∷ b ∷ c ∷ rest) P Q l p q = absurd (omega (arith, l))
 
-module _ (m m' : Meaning) (room : ℕ) (calls : List Call) (before after : List Answer) (v : Vec ℕ Global) (is : calls ≡ Common ∷ ListCall v ∷ []) (none : before ≡ []) (made : Made m m' room calls before after) where
-  run : Replayed m m' (Common ∷ ListCall v ∷ []) after
-  run = subst (λ (cs : List Call). Replayed m m' cs after) is (subst (λ (xs : List Answer). Replayed m m' calls (drop (length xs) after)) none made.run)
+-- what the answers of a run on a criterion in order are
+pub record Ran (m : Meaning) (answers : List Answer) : Type 0 where
+  pub two : Two answers
+  pub each : (common listed : Result ℕ Refusal) (places : Vec ℕ Global) → answers ≡ Chosen common ∷ Listed listed places ∷ []
+      → Chooses m (full m.count) (InEvery m (full m.count)) common × Lists m (full m.count) 4096 (vec_items places) listed
 
-  pub ran_two : m.order ≡ true → Two after
-  ran_two o =
-      let r = run in
-      two after (Chooses m (full m.count) (InEvery m (full m.count))) (Lists m (full m.count) (length (vec_items v))) r.long
-      (λ d. r.each o 0 Common d (omega arith)) (λ d. r.each o 1 Common d (omega arith))
-
-  pub ran_answers : m.order ≡ true → (common listed : Result ℕ Refusal) (places : Vec ℕ Global) → after ≡ Chosen common ∷ Listed listed places ∷ []
-      → Chooses m (full m.count) (InEvery m (full m.count)) common × Lists m (full m.count) (length (vec_items v)) (vec_items places) listed
-  ran_answers o common listed places e =
-      let r : Replayed m m' (Common ∷ ListCall v ∷ []) (Chosen common ∷ Listed listed places ∷ []) = subst (λ (xs : List Answer). Replayed m m' (Common ∷ ListCall v ∷ []) xs) e run in
-      (r.each o 0 Common (Chosen common) (omega arith), r.each o 1 Common (Chosen common) (omega arith))
+-- the run of the two calls, with an empty list of calls before the first
+pub ran : {m m' : Meaning} {room : ℕ} {none one calls : List Call} {before after : List Answer} (v : Vec ℕ Global) → none ≡ [] → one ≡ none ++ Common ∷ [] → calls ≡ one ++ ListCall v ∷ [] → length (vec_items v) ≡ 4096
+    → before ≡ [] → Made m m' room calls before after → m.order ≡ true → Ran m after
+ran {m} {m'} {calls = calls} {after = after} v z e f long none made o =
+    let is : calls ≡ Common ∷ ListCall v ∷ [] = f ∙ ap (λ cs. cs ++ ListCall v ∷ []) (e ∙ ap (λ cs. cs ++ Common ∷ []) z) in
+    let r : Replayed m m' (Common ∷ ListCall v ∷ []) after = subst (λ (cs : List Call). Replayed m m' cs after) is (subst (λ (xs : List Answer). Replayed m m' calls (drop (length xs) after)) none made.run) in
+    record {
+      two = two after (Chooses m (full m.count) (InEvery m (full m.count))) (Lists m (full m.count) (length (vec_items v))) r.long (λ d. r.each o 0 Common d (omega arith)) (λ d. r.each o 1 Common d (omega arith));
+      each = λ common listed places e.
+          let q : Replayed m m' (Common ∷ ListCall v ∷ []) (Chosen common ∷ Listed listed places ∷ []) = subst (λ (xs : List Answer). Replayed m m' (Common ∷ ListCall v ∷ []) xs) e r in
+          (q.each o 0 Common (Chosen common) (omega arith), subst (λ (k : ℕ). Lists m (full m.count) k (vec_items places) listed) long (q.each o 1 Common (Chosen common) (omega arith)));
+    }

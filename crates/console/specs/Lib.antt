@@ -2,6 +2,7 @@
 pub mod Text
 pub mod Response
 pub mod Reports
+pub mod Kinds
 pub mod Runs
 pub mod Views
 pub mod Examples

@@ -3,9 +3,10 @@
 
 ghost use Rattle.console.specs.Examples.{Responses};
 
-mod build;
 mod console;
+mod found;
 mod input;
+mod kind;
 mod line;
 mod lines;
 mod report;

@@ -1,5 +1,5 @@
 // The lines of the console.
-ghost use Rattle.std.specs.Prelude.{◌≡◌};
+ghost use Rattle.std.specs.Prelude.{◌≡◌, ◌≤◌, length};
 ghost use Rattle.base.specs.Places.{overwritten, written};
 ghost use Rattle.base.specs.Refusals.{index as index_of, number as number_of, outcome};
 ghost use Rattle.itemset.specs.Sets.{members};
@@ -11,12 +11,13 @@ use base::Refusal;
 
 impl Line {
     // How many items there are.
+    #[tactic(auto, using(crate::proofs::Texts::room))]
     pub fn items(count: u32) -> Line
         ensures is_the_items_line { text_of result ≡ items_line count }
     {
-        let mut line = Line::begun(b"items");
+        let mut line = Line::begun("items");
         line.push_number(count as usize);
-        line.push(b'\n');
+        line.end();
         line
     }
 
@@ -24,31 +25,33 @@ impl Line {
     pub fn common(set: u32) -> Line
         ensures is_the_common_line { text_of result ≡ common_line (members 32 set) }
     {
-        Line::of_set(b"common", set)
+        Line::of_set("common", set)
     }
 
     // The items of a core.
     pub fn core(set: u32) -> Line
         ensures is_the_core_line { text_of result ≡ core_line set }
     {
-        Line::of_set(b"core", set)
+        Line::of_set("core", set)
     }
 
     // A refusal's number and index.
+    #[tactic(auto, using(crate::proofs::Texts::room))]
     pub fn refused(refusal: Refusal) -> Line
         ensures is_the_refused_line { text_of result ≡ refused_line (number_of refusal) (index_of refusal) }
     {
-        let mut line = Line::begun(b"refused");
+        let mut line = Line::begun("refused");
         line.push_number(refusal.number() as usize);
         line.push_number(refusal.index());
-        line.push(b'\n');
+        line.end();
         line
     }
 
     pub fn as_slice(&self) -> &[u8]
         ensures shows_the_bytes { result.now ≡ text_of self.now }
+        ensures fits { length result.now ≤ 128 }
     {
-        &self.bytes[0..self.len]
+        self.0.as_str().as_bytes()
     }
 
     // Writes the line in front and answers how long it is.

@@ -1,12 +1,13 @@
-// Lists the cores of a criterion as text.
-ghost use Rattle.std.specs.Prelude.{◌≡◌, ℕ, ◌+◌, ◌*◌, ◌≤◌, true, [], ◌∷◌, ◌++◌, length, IfOk, vec_len, vec_capacity};
+// Lists the cores of a criterion, and prints what is found.
+ghost use Rattle.std.specs.Prelude.{◌≡◌, ◌+◌, ◌*◌, ◌≤◌, true, [], ◌∷◌, ◌++◌, length, vec_len, vec_capacity};
 ghost use Rattle.std.specs.List.{flat_map};
-ghost use Rattle.console.specs.Reports.{reported, set_lines};
+ghost use Rattle.console.specs.Reports.{printed, reported, set_lines};
 ghost use Rattle.console.specs.Response.{listed as listed_of};
 ghost use Rattle.console.specs.Runs.{Two};
 ghost use Rattle.console.specs.Text.{core_line};
 ghost use Rattle.console.specs.Views.{text_of};
 
+use crate::found::Found;
 use crate::line::Line;
 use crate::room::RunRoom;
 use base::Refusal;
@@ -20,10 +21,7 @@ pub(crate) fn append(text: &mut Vec<u8>, line: &Line)
     ensures len { vec_len text.new ≤ vec_len text.old + 128 }
     ensures capacity { vec_capacity text.old ≤ vec_capacity text.new }
 {
-    match text.extend_from_slice(line.as_slice()) {
-        Ok(()) => (),
-        Err(_) => unreachable(),
-    }
+    text.extend_from_slice(line.as_slice()).unwrap();
 }
 
 fn append_cores(text: &mut Vec<u8>, cores: &[u32])
@@ -35,33 +33,34 @@ fn append_cores(text: &mut Vec<u8>, cores: &[u32])
     }
 }
 
-fn append_sets(text: &mut Vec<u8>, count: u32, common: u32, cores: &[u32])
-    requires { vec_len text.old + 256 + 128 * length cores.now ≤ vec_capacity text.old }
-    ensures { text.new.items ≡ text.old.items ++ set_lines count common cores.now }
+// Adds the lines of what is found.
+pub(crate) fn append_sets(text: &mut Vec<u8>, found: &Found)
+    requires { vec_len text.old + 524544 ≤ vec_capacity text.old }
+    ensures { text.new.items ≡ text.old.items ++ set_lines found.now.count found.now.common found.now.cores.items }
 {
-    append(text, &Line::items(count));
-    append(text, &Line::common(common));
-    append_cores(text, cores);
+    append(text, &Line::items(found.count));
+    append(text, &Line::common(found.common));
+    append_cores(text, &found.cores);
 }
 
+// Takes the answers of a run together: the first refusal, or what is found.
 fn report(
-    text: &mut Vec<u8>,
     count: u32,
     common: Result<u32, Refusal>,
     listed: Result<u32, Refusal>,
-    places: &[u32],
-)
-    requires fits { IfOk listed (λ n. n ≤ length places.now) }
-    requires room { vec_len text.old + 256 + 128 * length places.now ≤ vec_capacity text.old }
-    ensures { text.new.items ≡ text.old.items ++ reported count common listed places.now }
+    mut places: Vec<u32>,
+) -> Result<Found, Refusal>
+    requires { vec_len places ≤ 4096 }
+    ensures { printed result ≡ reported count common listed places.items }
 {
-    match common {
-        Err(refusal) => append(text, &Line::refused(refusal)),
-        Ok(set) => match listed {
-            Err(refusal) => append(text, &Line::refused(refusal)),
-            Ok(n) => append_sets(text, count, set, &places[..n as usize]),
-        },
-    }
+    let common = common?;
+    let listed = listed?;
+    places.truncate(listed as usize);
+    Ok(Found {
+        count,
+        common,
+        cores: places,
+    })
 }
 
 // The answers of a run of two calls, taken apart.
@@ -70,19 +69,21 @@ fn taken_apart(mut answers: Vec<Answer>) -> (Result<u32, Refusal>, Result<u32, R
     ensures { answers.items ≡ Answer.Chosen result.0 ∷ Answer.Listed result.1 result.2 ∷ [] }
 {
     let Some(Answer::Listed(listed, places)) = answers.pop() else {
-        unreachable();
+        unreachable!();
     };
     let Some(Answer::Chosen(common)) = answers.pop() else {
-        unreachable();
+        unreachable!();
     };
     (common, listed, places)
 }
 
-// Runs the two calls over a criterion, and adds what is printed of their answers.
-pub(crate) fn list<C: GroupedCriterion + Drop>(criterion: C, room: RunRoom, text: &mut Vec<u8>)
-    requires order { (C.Criterion.meaning criterion).order ≡ true }
-    requires room { vec_len text.old + 524544 ≤ vec_capacity text.old }
-    ensures { text.new.items ≡ text.old.items ++ listed_of (C.Criterion.meaning criterion) }
+// Makes the two calls over a criterion.
+pub(crate) fn list<C: GroupedCriterion + Drop>(
+    criterion: C,
+    room: RunRoom,
+) -> Result<Found, Refusal>
+    requires { (C.Criterion.meaning criterion).order ≡ true }
+    ensures { printed result ≡ listed_of (C.Criterion.meaning criterion) }
 {
     let count = criterion.count();
     let RunRoom {
@@ -92,11 +93,9 @@ pub(crate) fn list<C: GroupedCriterion + Drop>(criterion: C, room: RunRoom, text
     } = room;
     calls.push_reserved(Call::Common);
     calls.push_reserved(Call::List(places));
-    match replay(criterion, calls, answers) {
-        Ok((_criterion, answers)) => {
-            let (common, listed, places) = taken_apart(answers);
-            report(text, count, common, listed, places.as_slice());
-        }
-        Err(_) => unreachable(),
-    }
+    let Ok((_criterion, answers)) = replay(criterion, calls, answers) else {
+        unreachable!();
+    };
+    let (common, listed, places) = taken_apart(answers);
+    report(count, common, listed, places)
 }

@@ -1,46 +1,47 @@
 // The response to an input.
-ghost use Rattle.std.specs.Prelude.{◌≡◌, ◌+◌, ◌≤◌, [], ◌++◌, length, IfOk, vec_len, vec_capacity};
+ghost use Rattle.std.specs.Prelude.{◌≡◌, ◌/◌, ◌≤◌, [], length, IfOk, vec_capacity};
 ghost use Rattle.base.specs.Places.{overwritten, written};
 ghost use Rattle.base.specs.Refusals.{outcome};
 ghost use Rattle.joints.specs.Admission.{admission};
 ghost use Rattle.joints.specs.Plans.{empty};
 ghost use Rattle.joints.specs.Views.{plan_of};
-ghost use Rattle.console.specs.Response.{answered, replied, reply as reply_to, response};
+ghost use Rattle.console.specs.Reports.{printed};
+ghost use Rattle.console.specs.Response.{answered, reply as reply_to, response};
 
 use crate::console::Console;
+use crate::found::Found;
 use crate::input::read_words;
+use crate::kind::Kind;
 use crate::line::Line;
-use crate::report::{append, list};
+use crate::report::{append, append_sets, list};
 use crate::room::RunRoom;
 use base::Refusal;
 use joints::{JointPlan, JointSets};
 use std::alloc::{AllocError, Global};
 
-// Adds what is printed of a joint sheet.
-fn answer_joints(mut plan: JointPlan, room: RunRoom, sheet: &[u64], text: &mut Vec<u8>)
-    requires { vec_len text.old + 524544 ≤ vec_capacity text.old }
-    ensures { text.new.items ≡ text.old.items ++ answered (admission sheet.now) }
+// What is found for a joint sheet.
+fn answer_joints(mut plan: JointPlan, room: RunRoom, sheet: &[u64]) -> Result<Found, Refusal>
+    ensures { printed result ≡ answered (admission sheet.now) }
 {
-    match plan.admit(sheet) {
-        Err(refusal) => append(text, &Line::refused(refusal)),
-        Ok(()) => list(JointSets::new(plan), room, text),
-    }
+    plan.admit(sheet)?;
+    list(JointSets::new(plan), room)
 }
 
-// Adds what is printed of a kind and a sheet.
-fn reply(plan: JointPlan, room: RunRoom, words: &[u64], text: &mut Vec<u8>)
-    requires { vec_len text.old + 524544 ≤ vec_capacity text.old }
-    ensures { text.new.items ≡ text.old.items ++ replied words.now }
+// What is found for the bytes of an input.
+fn reply(
+    plan: JointPlan,
+    room: RunRoom,
+    mut words: Vec<u64>,
+    bytes: &[u8],
+) -> Result<Found, Refusal>
+    requires { length bytes.now / 8 ≤ vec_capacity words }
+    ensures { printed result ≡ reply_to bytes.now }
 {
-    if words.is_empty() {
-        append(text, &Line::refused(Refusal::UnknownKind));
-        return;
+    read_words(bytes, &mut words)?;
+    let (kind, sheet) = words.split_first().ok_or(Refusal::UnknownKind)?;
+    match Kind::try_from(*kind)? {
+        Kind::Joints => answer_joints(plan, room, sheet),
     }
-    if words[0] != 3 {
-        append(text, &Line::refused(Refusal::UnknownKind));
-        return;
-    }
-    answer_joints(plan, room, &words[1..], text)
 }
 
 impl RunRoom {
@@ -79,18 +80,16 @@ impl Console {
         ensures { result.items ≡ reply_to bytes.now }
     {
         let Console {
-            mut words,
+            words,
             plan,
             run,
             mut text,
         } = self;
         text.clear();
-        if bytes.len() % 8 != 0 {
-            append(&mut text, &Line::refused(Refusal::OddLength));
-            return text;
+        match reply(plan, run, words, bytes) {
+            Ok(found) => append_sets(&mut text, &found),
+            Err(refusal) => append(&mut text, &Line::refused(refusal)),
         }
-        read_words(bytes, &mut words);
-        reply(plan, run, words.as_slice(), &mut text);
         text
     }
 
@@ -101,7 +100,7 @@ impl Console {
         ensures within_the_buffer { IfOk result (λ n. n ≤ length out.old) }
     {
         let len = input.len().min(24656);
-        let text = self.answer(&input[0..len]);
+        let text = self.answer(&input[..len]);
         base::write(text.as_slice(), out)
     }
 }

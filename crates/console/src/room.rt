@@ -1,5 +1,5 @@
 // The memory that one run of calls needs: 4,096 places, two calls and their answers.
-ghost use Rattle.std.specs.Prelude.{◌≡◌, ◌≤◌, vec_len, vec_capacity};
+ghost use Rattle.std.specs.Prelude.{◌≡◌, ◌≤◌, [], vec_len, vec_capacity};
 
 use inquiry::{Answer, Call};
 
@@ -9,5 +9,5 @@ pub(crate) struct RunRoom {
     pub(crate) calls: Vec<Call>,
     pub(crate) answers: Vec<Answer>,
     ghost long: { vec_len places ≡ 4096 },
-    ghost idle: { (vec_len calls ≡ 0) × (2 ≤ vec_capacity calls) × (vec_len answers ≡ 0) × (2 ≤ vec_capacity answers) },
+    ghost idle: { (calls.items ≡ []) × (2 ≤ vec_capacity calls) × (answers.items ≡ []) × (2 ≤ vec_capacity answers) },
 }

@@ -1,31 +1,14 @@
 // Reads a kind and a sheet from standard input and prints the cores.
 #![tactic(auto)]
 
-ghost use Rattle.std.specs.Prelude.{◌≤◌, length, IfOk};
-
 use console::{Console, Line};
 use std::io;
 use std::io::{Read, Write};
 
-// Reads until the input ends or the places are full, and answers how many bytes came.
-fn fill(input: &mut io::Stdin, places: &mut [u8]) -> io::Result<usize>
-    ensures within_the_places { IfOk result (λ n. n ≤ length places.old) }
-{
-    let mut count = 0;
-    for _ in 0..places.len() {
-        let got = input.read(&mut places[count..])?;
-        if got == 0 {
-            break;
-        }
-        count += got;
-    }
-    Ok(count)
-}
-
 // Prints the response to the input, by way of the output buffer.
 fn print(rt: &HostRuntime, console: Console, input: &[u8], output: &mut [u8]) -> io::Result<()> {
     match console.respond(input, output) {
-        Ok(len) => rt.stdout().write_all(&output[0..len]),
+        Ok(len) => rt.stdout().write_all(&output[..len]),
         Err(refusal) => rt.stdout().write_all(Line::refused(refusal).as_slice()),
     }
 }
@@ -33,8 +16,9 @@ fn print(rt: &HostRuntime, console: Console, input: &[u8], output: &mut [u8]) ->
 fn main(rt: HostRuntime) -> io::Result<()> {
     let heap = rt.alloc();
     let console = Console::new(heap)?;
-    let mut input = vec![in heap; 0u8; 24656]?;
+    // one byte more than is read, so that the end is found without more memory
+    let mut input = Vec::with_capacity(heap, 24657)?;
     let mut output = vec![in heap; 0u8; 524544]?;
-    let count = fill(&mut rt.stdin(), &mut input)?;
-    print(&rt, console, &input[0..count], &mut output)
+    rt.stdin().take(24656).read_to_end(&mut input)?;
+    print(&rt, console, &input, &mut output)
 }

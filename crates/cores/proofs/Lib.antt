@@ -1,8 +1,9 @@
 pub mod Judged
-pub mod Shrinking
-pub mod Sifting
+pub mod Coming
 pub mod Pruning
+pub mod Ranking
+pub mod Sifting
 pub mod Placing
-pub mod Picking
-pub mod Whole
 pub mod Exploring
+pub mod Whole
+pub mod Picking

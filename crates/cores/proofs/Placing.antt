@@ -1,19 +1,20 @@
 -- A set put into its place in a row.
-use Rattle.std.proofs.Common.{◌≡◌, ℕ, ◌+◌, ◌-◌, ◌^◌, ◌<◌, ◌≤◌, Bool, true, false, cond, ltb, ◌⊎◌, List, [], ◌∷◌, ◌++◌, length, get_or, take, drop, set, replicate, All, Contains, sym, refl, ap, ◌∙◌, subst, inl, inr, one-add, arith}
+use Rattle.std.proofs.Common.{◌≡◌, ℕ, zero, suc, ◌+◌, ◌-◌, ◌^◌, ◌<◌, ◌≤◌, Bool, true, false, cond, ltb, List, [], ◌∷◌, ◌++◌, length, get_or, take, drop, set, replicate, All, Contains, sym, refl, ap, ◌∙◌, subst, one-add, arith}
 use lib.Seq.{paste}
 use Rattle.std.specs.List.{prefix_len, insert}
-use Rattle.std.proofs.lemmas.List.Elements.{All-nil, All-cons, All-head, All-tail, All-weaker}
+use Rattle.std.proofs.lemmas.List.Elements.{All-nil, All-cons, All-head, All-tail, All-weaker, All-contains, All-contains_itself}
 use Rattle.std.proofs.lemmas.List.{take_at, drop_at, take_more, take-take, length-take-le, length-append, length-drop, append_assoc, set_at, drop-drop, drop-replicate}
 use Rattle.std.proofs.lemmas.Slice.{between_is}
-use Rattle.std.proofs.lemmas.List.Sums.{prefix_len-le-length}
+use Rattle.std.proofs.lemmas.List.Sums.{prefix_len_is}
+use Rattle.std.proofs.lemmas.List.Sorted.{IsPartitionedBy-ltb}
+use Rattle.std.specs.List.Sorted.{IsNonDecreasing, IsPartitionedBy, IsPartitionPoint}
 use Rattle.std.proofs.lemmas.Bool.{ltb-true, ltb-false}
 use Rattle.itemset.specs.Lists.{Rising}
-use Rattle.itemset.proofs.Rows.{Mem, has_from_mem, mem_from_has}
-use Rattle.cores.specs.Rows.{Row, Grown, placed}
+use Rattle.cores.specs.Rows.{Row, placed}
 
 -- ---- what the code does
 
-pub placed_is : (x : ℕ) (row : List ℕ) → placed x row ≡ insert row (prefix_len (λ y. ltb y x) row) x
+placed_is : (x : ℕ) (row : List ℕ) → placed x row ≡ insert row (prefix_len (λ y. ltb y x) row) x
 placed_is x [] = refl
 placed_is x (y ∷ ys) = go (ltb y x) (prefix_len (λ z. ltb z x) ys) (placed_is x ys)
   where
@@ -36,13 +37,25 @@ shifted xs at count x le lt =
     ap (λ zs. set zs at x) whole ∙ set_at (take at xs) y (mid ++ rest) x at long ∙ sym (append_assoc (take at xs) (x ∷ mid) rest)
     ∙ ap (λ zs. (zs ++ x ∷ mid) ++ rest) (sym (take-take at count xs le)) ∙ ap (λ zs. (take at (take count xs) ++ x ∷ zs) ++ rest) (between_is xs at count)
 
-pub place_le : (x count : ℕ) (xs : List ℕ) → count < length xs → prefix_len (λ y. ltb y x) (take count xs) ≤ count
-place_le x count xs lt = omega (arith, prefix_len-le-length (λ y. ltb y x) (take count xs), length-take-le count xs (omega arith))
+-- a rising row is one that a search by halves is for
+rising_ordered : (row : List ℕ) → Rising row → IsNonDecreasing row
+rising_ordered [] r i j d le lt = absurd (omega arith)
+rising_ordered (x ∷ xs) r zero zero d le lt = omega arith
+rising_ordered (x ∷ xs) r zero (suc j) d le lt = let h = r.0 j d (omega arith) in omega arith
+rising_ordered (x ∷ xs) r (suc i) zero d le lt = absurd (omega arith)
+rising_ordered (x ∷ xs) r (suc i) (suc j) d le lt = rising_ordered xs r.1 i j d (omega arith) (omega arith)
 
-pub inserted_is : (xs ys : List ℕ) (at count x : ℕ) → at ≡ prefix_len (λ y. ltb y x) (take count xs) → count < length xs → ys ≡ paste xs (at + 1) (drop at xs) (count - at) → set ys at x ≡ placed x (take count xs) ++ drop (count + 1) xs
-inserted_is xs ys at count x e lt f =
-    ap (λ zs. set zs at x) f ∙ shifted xs at count x (omega (arith, e, place_le x count xs lt)) lt
-    ∙ ap (λ k. insert (take count xs) k x ++ drop (count + 1) xs) e ∙ ap (λ zs. zs ++ drop (count + 1) xs) (sym (placed_is x (take count xs)))
+-- what `partition_point` asks, and where it finds that x belongs
+pub rising_parted : (x : ℕ) (row : List ℕ) → Rising row → IsPartitionedBy (λ y. ltb y x) row
+rising_parted x row r = IsPartitionedBy-ltb (λ y. y) row x (rising_ordered row r)
+
+point_is : (x at : ℕ) (row : List ℕ) → at ≤ length row → IsPartitionPoint (λ y. ltb y x ≡ true) (λ y. ltb y x ≡ false) row at → at ≡ prefix_len (λ y. ltb y x) row
+point_is x at row le h = sym (prefix_len_is (λ y. ltb y x) row at 0 le (λ k lt. h.0 k 0 (omega arith) lt) (λ lt. h.1 at 0 (omega arith) lt))
+
+pub put_is : (xs ys : List ℕ) (at count x : ℕ) → count < length xs → at ≤ length (take count xs) → IsPartitionPoint (λ y. ltb y x ≡ true) (λ y. ltb y x ≡ false) (take count xs) at → ys ≡ paste xs (at + 1) (drop at xs) (count - at) → set ys at x ≡ placed x (take count xs) ++ drop (count + 1) xs
+put_is xs ys at count x lt le h f =
+    ap (λ zs. set zs at x) f ∙ shifted xs at count x (omega (arith, le, length-take-le count xs (omega arith))) lt
+    ∙ ap (λ k. insert (take count xs) k x ++ drop (count + 1) xs) (point_is x at (take count xs) le h) ∙ ap (λ zs. zs ++ drop (count + 1) xs) (sym (placed_is x (take count xs)))
 
 -- ---- what the row has then
 
@@ -70,26 +83,23 @@ rising_placed x (y ∷ ys) r new = go (ltb y x) refl (rising_placed x ys r.1 (Al
     go true e k = (all_placed (λ z. y < z) x ys (ltb-true y x e) r.0, k)
     go false e k = let lt : x < y = omega (arith, ltb-false y x e, All-head (λ z. z ≡ x → ⊥) y ys new) in (All-cons (λ z. x < z) y ys lt (All-weaker (λ z. y < z) (λ z. x < z) (λ z h. omega arith) ys r.0), r)
 
-mem_new : (x : ℕ) (row : List ℕ) → Mem x (placed x row)
-mem_new x [] = inl refl
-mem_new x (y ∷ ys) = go (ltb y x) (mem_new x ys)
+of_placed : (P : ℕ → Type 0) (x : ℕ) (row : List ℕ) → All P (placed x row) → P x × All P row
+of_placed P x [] a = (All-head P x [] a, All-nil P)
+of_placed P x (y ∷ ys) a = go (ltb y x) (of_placed P x ys) a
   where
-    go : (b : Bool) → Mem x (placed x ys) → Mem x (cond b (y ∷ placed x ys) (x ∷ y ∷ ys))
-    go true m = inr m
-    go false m = inl refl
+    go : (b : Bool) → (All P (placed x ys) → P x × All P ys) → All P (cond b (y ∷ placed x ys) (x ∷ y ∷ ys)) → P x × All P (y ∷ ys)
+    go true ih k = let h = ih (All-tail P y (placed x ys) k) in (h.0, All-cons P y ys (All-head P y (placed x ys) k) h.1)
+    go false ih k = (All-head P x (y ∷ ys) k, All-tail P x (y ∷ ys) k)
 
-mem_old : (x z : ℕ) (row : List ℕ) → Mem z row → Mem z (placed x row)
-mem_old x z [] m = absurd m
-mem_old x z (y ∷ ys) m = go (ltb y x) m (mem_old x z ys)
-  where
-    go : (b : Bool) → (z ≡ y) ⊎ Mem z ys → (Mem z ys → Mem z (placed x ys)) → Mem z (cond b (y ∷ placed x ys) (x ∷ y ∷ ys))
-    go true (inl e) ih = inl e
-    go true (inr k) ih = inr (ih k)
-    go false k ih = inr k
+pub placed_has : (x : ℕ) (row : List ℕ) → Contains (placed x row) x
+placed_has x row = (of_placed (Contains (placed x row)) x row (All-contains_itself (placed x row))).0
+
+pub placed_keeps : (x K : ℕ) (row : List ℕ) → Contains row K → Contains (placed x row) K
+placed_keeps x K row = All-contains (Contains (placed x row)) row K (of_placed (Contains (placed x row)) x row (All-contains_itself (placed x row))).1
 
 -- ---- the places
 
-module _ (n count x : ℕ) (xs ys : List ℕ) (r : Row n count xs) (room : count < length xs) (is : ys ≡ placed x (take count xs) ++ drop (count + 1) xs) where
+module _ (count x : ℕ) (xs ys : List ℕ) (r : Row count xs) (room : count < length xs) (is : ys ≡ placed x (take count xs) ++ drop (count + 1) xs) where
   many : length (placed x (take count xs)) ≡ count + 1
   many = length_placed x (take count xs) ∙ ap (λ k. k + 1) (length-take-le count xs r.high)
 
@@ -102,19 +112,10 @@ module _ (n count x : ℕ) (xs ys : List ℕ) (r : Row n count xs) (room : count
   behind : drop (count + 1) xs ≡ replicate (length xs - (count + 1)) 0
   behind = sym (drop-drop 1 count xs) ∙ ap (drop 1) r.zeros ∙ drop-replicate 1 (length xs - count) 0 ∙ ap (λ k. replicate k 0) (omega arith)
 
-  pub grown_by : x < 2 ^ n → All (λ y. y ≡ x → ⊥) (take count xs) → Grown n count xs (count + 1) ys
-  grown_by small new = record {
-    row = record {
-      high = omega (arith, long);
-      rising = subst Rising (sym front_is) (rising_placed x (take count xs) r.rising new);
-      below = subst (All (λ K. K < 2 ^ n)) (sym front_is) (all_placed (λ K. K < 2 ^ n) x (take count xs) small r.below);
-      zeros = ap (drop (count + 1)) is ∙ drop_at (placed x (take count xs)) (drop (count + 1) xs) (count + 1) many ∙ behind ∙ ap (λ k. replicate (k - (count + 1)) 0) (sym long);
-    };
-    keeps = λ K h. subst (λ zs. Contains zs K) (sym front_is) (has_from_mem K (placed x (take count xs)) (mem_old x K (take count xs) (mem_from_has K (take count xs) h)));
+  pub row_more : x < 2 ^ 31 → All (λ y. y ≡ x → ⊥) (take count xs) → Row (count + 1) ys
+  row_more small new = record {
+    high = omega (arith, long);
+    rising = subst Rising (sym front_is) (rising_placed x (take count xs) r.rising new);
+    below = subst (All (λ K. K < 2 ^ 31)) (sym front_is) (all_placed (λ K. K < 2 ^ 31) x (take count xs) small r.below);
+    zeros = ap (drop (count + 1)) is ∙ drop_at (placed x (take count xs)) (drop (count + 1) xs) (count + 1) many ∙ behind ∙ ap (λ k. replicate (k - (count + 1)) 0) (sym long);
   }
-
-  pub has_it : Contains (take (count + 1) ys) x
-  has_it = subst (λ zs. Contains zs x) (sym front_is) (has_from_mem x (placed x (take count xs)) (mem_new x (take count xs)))
-
-pub grown_same : (n count : ℕ) (xs : List ℕ) → Row n count xs → Grown n count xs count xs
-grown_same n count xs r = record { row = r; keeps = λ K h. h }

@@ -1,6 +1,8 @@
 // Scopes of a criterion, and the searches for their cores, for every criterion.
 #![tactic(auto)]
 
+mod finding;
+mod found;
 mod listing;
 mod scope;
 mod scoping;

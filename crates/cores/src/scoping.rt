@@ -25,8 +25,10 @@ impl Scope {
         ensures items { result.items ≡ items }
         ensures set { result.set ≡ full_set items }
     {
-        let set = (1 << items) - 1;
-        Scope { items, set }
+        Scope {
+            items,
+            set: u32::first(items),
+        }
     }
 
     // The scope without one of its items.
@@ -34,9 +36,10 @@ impl Scope {
         ensures items { result.items ≡ self.items }
         ensures set { result.set ≡ less self.set (2 ^ item) }
     {
-        let items = self.items;
-        let set = self.set.without(item);
-        Scope { items, set }
+        Scope {
+            items: self.items,
+            set: self.set.without(item),
+        }
     }
 
     // Takes an item out, and answers how many are then in.
@@ -55,7 +58,7 @@ impl Scope {
         Ok(self.set.size())
     }
 
-    // Puts an item back, and answers how many are then in.
+    // Puts an item back, and answers how many are then in. (One function with a flag for both would turn on it at every step.)
     pub fn restore(&mut self, item: u32) -> Result<u32, Refusal>
         ensures answers_the_size { outcome (λ n. n) result ≡ restoring self.old.items self.old.set item }
         ensures puts_it_in { self.new.set ≡ restored self.old.items self.old.set item }

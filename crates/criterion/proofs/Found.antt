@@ -1,76 +1,54 @@
 -- Cores: the test decides them, every yes set contains one, and what hits them all.
 use Rattle.std.proofs.Common.{◌≡◌, ℕ, zero, suc, ◌+◌, ◌^◌, ◌<◌, ◌≤◌, Bool, true, false, not, ◌&&◌, ◌⊎◌, ◌↔◌, List, length, Decides, Contains, sym, refl, subst, inl, inr, ⊎_elim, arith}
 use Rattle.std.specs.List.{range_with_len}
-use Rattle.std.proofs.lemmas.Bool.{cases_Bool, cases_eq, both_ways}
+use Rattle.std.proofs.lemmas.Bool.{and_parts, cases_Bool, cases_eq, both_ways, false_from_ne_true}
 use Rattle.std.proofs.lemmas.Bool.Decides.{Decides-below_and, Decides-and, Decides-not, Decides-like}
 use Rattle.itemset.specs.Sets.{◌∈◌, ◌⊆◌, Meets, less, within}
 use Rattle.itemset.specs.Lists.{Rising}
 use Rattle.criterion.specs.Meaning.{Monotone}
 use Rattle.criterion.specs.Cores.{Core, none_below, is_core, cores}
 use Rattle.criterion.specs.Laws.{Hitting, Found, Unique, Counted, Shrunk, Needed, Branches}
-use Rattle.itemset.proofs.Members.{decides_within, subset_le, less_sub, in_less, in_one, meets_or_not, one_outside, outside_or}
+use Rattle.itemset.proofs.Members.{decides_within, subset_le, less_sub, in_less, in_one, meets_or_not, one_outside, outside_or, sub_lacking}
 use Rattle.itemset.proofs.Rows.{Mem, has_from_mem, mem_from_has, mem_le, mem_same, rising_kept, rising_counting, mem_counting, mem_kept, kept_passes}
 
--- ---- the test of a core
-
 module _ (V : ℕ → Bool) where
-  yes_itself : (m : ℕ) → Decides (V m) (V m ≡ true)
-  yes_itself m = (λ e. e, λ e. e)
+  -- ---- the test of a core
 
   decides_none : (k n : ℕ) → Decides (none_below V k n) ((m : ℕ) → m < n → ((m ⊆ k) × (V m ≡ true)) → ⊥)
-  decides_none k n = Decides-below_and (λ m. not (within m k && V m)) (λ m. ((m ⊆ k) × (V m ≡ true)) → ⊥) (none_below V k) (λ m. Decides-not (within m k && V m) (Decides-and (within m k) (V m) (decides_within m k) (yes_itself m))) refl (λ m. refl) n
+  decides_none k n = Decides-below_and (λ m. not (within m k && V m)) (λ m. ((m ⊆ k) × (V m ≡ true)) → ⊥) (none_below V k) (λ m. Decides-not (within m k && V m) (Decides-and (within m k) (V m) (decides_within m k) (λ e. e, λ e. e))) refl (λ m. refl) n
+
+  -- a yes set is a core if no smaller number is a yes set within it
+  least_core : (E k : ℕ) → k ⊆ E → V k ≡ true → ((m : ℕ) → m < k → ((m ⊆ k) × (V m ≡ true)) → ⊥) → Core V E k
+  least_core E k s t none = record {
+    inside = s;
+    gets = t;
+    least = λ P p ne. false_from_ne_true (V P) (λ tp. none P (omega (arith, subset_le P k p, ne)) (p, tp));
+  }
 
   pub decides_core : (E k : ℕ) → Decides (is_core V E k) (Core V E k)
   decides_core E k =
       Decides-like (is_core V E k)
-      (λ h. record {
-        inside = h.0;
-        gets = h.1.0;
-        least = λ P s ne. ⊎_elim (λ t. absurd (h.1.1 P (below P s ne) (s, t))) (λ f. f) (cases_Bool (V P));
-      })
+      (λ h. least_core E k h.0 h.1.0 h.1.1)
       (λ c. (c.inside, (c.gets, λ m lt h. both_ways (V m) (c.least m h.0 (λ e. omega arith)) h.1)))
-      (Decides-and (within k E) (V k && none_below V k k) (decides_within k E) (Decides-and (V k) (none_below V k k) (yes_itself k) (decides_none k k)))
-    where
-      below : (P : ℕ) → P ⊆ k → (P ≡ k → ⊥) → P < k
-      below P s ne = omega (arith, subset_le P k s, ne)
+      (Decides-and (within k E) (V k && none_below V k k) (decides_within k E) (Decides-and (V k) (none_below V k k) (λ e. e, λ e. e) (decides_none k k)))
 
   -- ---- a set that gets yes contains a core
 
-  smaller : (A m : ℕ) → ((P : ℕ) → P < m → P ⊆ A → V P ≡ true → ⊥) ⊎ ((P : ℕ) × (P < m) × (P ⊆ A) × (V P ≡ true))
-  smaller A zero = inl (λ P lt s t. omega arith)
-  smaller A (suc m) =
-      ⊎_elim
-      (λ none. ⊎_elim
-      (λ yes'. ⊎_elim (λ t. inr (m, (omega arith), (decides_within m A).0 yes', t)) (λ f. inl (λ P lt s t. here none P lt s t (λ e. both_ways (V m) f (subst (λ (x : ℕ). V x ≡ true) e t)))) (cases_Bool (V m)))
-      (λ no'. inl (λ P lt s t. here none P lt s t (λ e. both_ways (within m A) no' ((decides_within m A).1 (subst (λ (x : ℕ). x ⊆ A) e s)))))
-      (cases_Bool (within m A)))
-      (λ p. inr (p.0, (omega (arith, p.1)), p.2, p.3))
-      (smaller A m)
+  core_or_none : (E n : ℕ) → ((K : ℕ) × Core V E K) ⊎ ((m : ℕ) → m < n → m ⊆ E → V m ≡ true → ⊥)
+  core_or_none E zero = inr (λ m lt s t. omega arith)
+  core_or_none E (suc n) = ⊎_elim inl (λ none. ⊎_elim (λ t. inl (n, here none t)) (λ f. inr (past none f)) (cases_Bool (within n E && V n))) (core_or_none E n)
     where
-      here : ((P : ℕ) → P < m → P ⊆ A → V P ≡ true → ⊥) → (P : ℕ) → P < suc m → P ⊆ A → V P ≡ true → (P ≡ m → ⊥) → ⊥
-      here none P lt s t ne = none P (omega (arith, ne)) s t
+      here : ((m : ℕ) → m < n → m ⊆ E → V m ≡ true → ⊥) → (within n E && V n) ≡ true → Core V E n
+      here none t =
+          let p = and_parts (within n E) (V n) t in
+          let s = (decides_within n E).0 p.0 in
+          least_core E n s p.1 (λ m lt h. none m lt (λ i q. s i (h.0 i q)) h.1)
 
-  pub core_within : (f A : ℕ) → A < f → V A ≡ true → (K : ℕ) × Core V A K
-  core_within zero A lt t = absurd (omega arith)
-  core_within (suc f) A lt t =
-      ⊎_elim
-      (λ none. (
-        A,
-        record {
-          inside = λ i p. p;
-          gets = t;
-          least = λ P s ne. ⊎_elim (λ tp. absurd (none P (below P s ne) s tp)) (λ fp. fp) (cases_Bool (V P));
-        },
-      ))
-      (λ p. let c : (K : ℕ) × Core V p.0 K = core_within f p.0 (omega (arith, p.1)) p.3 in
-      (c.0, record { inside = λ i q. p.2 i (c.1.inside i q); gets = c.1.gets; least = c.1.least }))
-      (smaller A A)
-    where
-      below : (P : ℕ) → P ⊆ A → (P ≡ A → ⊥) → P < A
-      below P s ne = omega (arith, subset_le P A s, ne)
+      past : ((m : ℕ) → m < n → m ⊆ E → V m ≡ true → ⊥) → (within n E && V n) ≡ false → (m : ℕ) → m < suc n → m ⊆ E → V m ≡ true → ⊥
+      past none f m lt s t = grind (arith, none m, decides_within m E)
 
-  pub a_core : (A : ℕ) → V A ≡ true → (K : ℕ) × Core V A K
-  a_core A t = core_within (suc A) A (omega arith) t
+  pub a_core : (E : ℕ) → V E ≡ true → (K : ℕ) × Core V E K
+  a_core E t = ⊎_elim (λ c. c) (λ none. absurd (none E (omega arith) (λ i p. p) t)) (core_or_none E (suc E))
 
   -- ---- the list of the cores
 
@@ -99,7 +77,7 @@ module _ (V : ℕ → Bool) where
     no_hits E D f K c = ⊎_elim (λ m. m) (λ apart. absurd (both_ways (V (less E D)) f (law K (less E D) (λ i p. (in_less i E D).1 (c.inside i p, λ q. apart (i, p, q))) c.gets))) (meets_or_not K D)
 
     pub hits_no : (E D : ℕ) → ((K : ℕ) → Core V E K → Meets K D) → V (less E D) ≡ false
-    hits_no E D h = ⊎_elim (λ t. absurd (contra (a_core (less E D) t))) (λ f. f) (cases_Bool (V (less E D)))
+    hits_no E D h = false_from_ne_true (V (less E D)) (λ t. contra (a_core (less E D) t))
       where
         contra : (K : ℕ) × Core V (less E D) K → ⊥
         contra c =
@@ -127,11 +105,8 @@ pub shrunk : Shrunk
 shrunk V law E K s t none = record {
   inside = s;
   gets = t;
-  least = λ P p ne. ⊎_elim (λ tp. absurd (contra P p tp (one_outside P K p ne))) (λ fp. fp) (cases_Bool (V P));
+  least = λ P p ne. false_from_ne_true (V P) (λ tp. let o = one_outside P K p ne in both_ways (V (less K (2 ^ o.0))) (none o.0 o.1) (law P (less K (2 ^ o.0)) (sub_lacking P K o.0 p o.2) tp));
 }
-  where
-    contra : (P : ℕ) → P ⊆ K → V P ≡ true → (i : ℕ) × (i ∈ K) × (i ∈ P → ⊥) → ⊥
-    contra P p tp o = both_ways (V (less K (2 ^ o.0))) (none o.0 o.1) (law P (less K (2 ^ o.0)) (λ j q. (in_less j K (2 ^ o.0)).1 (p j q, λ r. o.2 (subst (λ x. x ∈ P) ((in_one j o.0).0 r) q))) tp)
 
 pub needed : Needed
 needed V law E i = (
@@ -145,5 +120,5 @@ pub branches : Branches
 branches V E K c L = (from (outside_or L K), ⊎_elim (λ e. subst (Core V E) (sym e) c) (λ b. record { inside = λ j p. less_sub E (2 ^ b.0) j (b.2.inside j p); gets = b.2.gets; least = b.2.least }))
   where
     from : ((i : ℕ) × (i ∈ K) × (i ∈ L → ⊥)) ⊎ (K ⊆ L) → Core V E L → (L ≡ K) ⊎ ((i : ℕ) × (i ∈ K) × Core V (less E (2 ^ i)) L)
-    from (inl o) d = inr (o.0, o.1, record { inside = λ j p. (in_less j E (2 ^ o.0)).1 (d.inside j p, λ r. o.2 (subst (λ x. x ∈ L) ((in_one j o.0).0 r) p)); gets = d.gets; least = d.least })
+    from (inl o) d = inr (o.0, o.1, record { inside = sub_lacking L E o.0 d.inside o.2; gets = d.gets; least = d.least })
     from (inr s) d = ⊎_elim inl (λ ne. absurd (both_ways (V K) (d.least K s (λ e. ne (sym e))) c.gets)) (cases_eq L K)

@@ -1,3 +1,4 @@
 pub mod Found
 pub mod Computed
 pub mod Recalled
+pub mod Grouping

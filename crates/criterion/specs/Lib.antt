@@ -6,3 +6,4 @@ pub mod Examples
 pub mod Recall
 pub mod Over
 pub mod Held
+pub mod Groups

@@ -1,16 +1,13 @@
 -- What the adapters over another criterion mean.
-use Rattle.std.specs.Prelude.{ℕ, Bool, true, cond, not, ◌&&◌, List, [], ◌∷◌}
+use Rattle.std.specs.Prelude.{ℕ, Bool, ◌&&◌, List}
+use Rattle.std.specs.Bool.{beq}
+use Rattle.std.specs.List.{list_all}
 use Rattle.criterion.specs.declared.remembered.Remembered.{Remembered}
 use Rattle.criterion.specs.Meaning.{Meaning}
 
--- the two verdicts are the same
-abbrev pub alike : Bool → Bool → Bool
-alike a b = cond a b (not b)
-
 -- every remembered verdict is V's
 abbrev pub agrees : (ℕ → Bool) → List Remembered → Bool
-agrees V [] = true
-agrees V (e ∷ es) = alike (V e.set) e.verdict && agrees V es
+agrees V es = list_all (λ e. beq (V e.set) e.verdict) es
 
 -- a memory that holds es: in order exactly when the criterion below is and every remembered verdict is the verdict below
 abbrev pub recalling : Meaning → List Remembered → Meaning

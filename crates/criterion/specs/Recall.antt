@@ -1,5 +1,6 @@
 -- What a memory keeps: a row of remembered verdicts, what they say of a set, and how the row grows.
-use Rattle.std.specs.Prelude.{ℕ, ◌%◌, ◌^◌, Bool, true, false, cond, not, ◌&&◌, ◌||◌, List, [], ◌∷◌, ◌++◌, length, Some, None, Option, nat_lt}
+use Rattle.std.specs.Prelude.{ℕ, ◌%◌, ◌^◌, Bool, true, false, not, ◌&&◌, List, [], ◌∷◌, ◌++◌, length, Some, None, Option, nat_lt, if◌then◌else◌}
+use Rattle.std.specs.List.{list_any}
 use Rattle.itemset.specs.Sets.{within}
 use Rattle.criterion.specs.declared.remembered.Remembered.{Remembered}
 
@@ -11,19 +12,14 @@ says_yes s e = e.verdict && within e.set s
 abbrev pub says_no : ℕ → Remembered → Bool
 says_no s e = not e.verdict && within s e.set
 
--- some entry passes a test
-abbrev pub any : (Remembered → Bool) → List Remembered → Bool
-any p [] = false
-any p (e ∷ es) = p e || any p es
-
 -- what the row says of s: yes by a yes-set within s; failing that, no by a no-set around s
 abbrev pub recall : List Remembered → ℕ → Option Bool
-recall es s = cond (any (says_yes s) es) (Some true) (cond (any (says_no s) es) (Some false) None)
+recall es s = if list_any (says_yes s) es then Some true else (if list_any (says_no s) es then Some false else None)
 
 -- one entry more where nothing was recalled and fewer than 64 are held
 abbrev pub grown : Option Bool → List Remembered → Remembered → List Remembered
 grown (Some b) es e = es
-grown None es e = cond (nat_lt (length es) 64) (es ++ (e ∷ [])) es
+grown None es e = if nat_lt (length es) 64 then es ++ e ∷ [] else es
 
 -- the row after a check of s, over n items, that was answered v
 abbrev pub learned : List Remembered → ℕ → ℕ → Bool → List Remembered

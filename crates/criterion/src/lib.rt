@@ -5,13 +5,14 @@ ghost use Rattle.criterion.specs.Examples.{Computed};
 ghost use Rattle.criterion.specs.Laws.{Branches, Counted, Found, Hitting, Needed, Shrunk, Unique};
 
 mod criterion;
-mod held;
+mod group;
 mod memory;
 mod remembered;
 mod ungrouped;
 
 pub use criterion::{Criterion, GroupedCriterion};
-pub use held::Memory;
+pub use group::Group;
+pub use memory::Memory;
 pub use remembered::Remembered;
 pub use ungrouped::Ungrouped;
 

@@ -1,62 +1,20 @@
 // A memory of verdicts over any criterion.
 ghost use Rattle.std.specs.Prelude.{◌≡◌, ◌%◌, ◌^◌, ◌≤◌, Bool, true, [], length, Some, None};
 ghost use Rattle.criterion.specs.Held.{remembering, row};
-ghost use Rattle.criterion.specs.Recall.{any, grown, learned, recall as recalled, says_no, says_yes};
+ghost use Rattle.criterion.specs.Recall.{grown, learned, recall as recalled};
 ghost use Rattle.std.proofs.Common.{rules};
 
 use crate::criterion::{Criterion, GroupedCriterion};
-use crate::held::Memory;
+use crate::group::Group;
 use crate::remembered::Remembered;
+use arrayvec::ArrayVec;
 use itemset::WordSet;
 
-impl Remembered {
-    // A yes for a set that contains this one.
-    fn is_yes_for(&self, set: u32) -> bool
-        ensures { result ≡ says_yes set self.now }
-    {
-        self.verdict && self.set.within(set)
-    }
-
-    // A no for a set within this one.
-    fn is_no_for(&self, set: u32) -> bool
-        ensures { result ≡ says_no set self.now }
-    {
-        !self.verdict && set.within(self.set)
-    }
-}
-
-fn any_yes(entries: &[Remembered], set: u32) -> bool
-    ensures { result ≡ any (says_yes set) entries.now }
-{
-    for entry in entries {
-        if entry.is_yes_for(set) {
-            return true;
-        }
-    }
-    false
-}
-
-fn any_no(entries: &[Remembered], set: u32) -> bool
-    ensures { result ≡ any (says_no set) entries.now }
-{
-    for entry in entries {
-        if entry.is_no_for(set) {
-            return true;
-        }
-    }
-    false
-}
-
-fn recall(entries: &[Remembered], set: u32) -> Option<bool>
-    ensures { result ≡ recalled entries.now set }
-{
-    if any_yes(entries, set) {
-        return Some(true);
-    }
-    if any_no(entries, set) {
-        return Some(false);
-    }
-    None
+// A criterion with the verdicts that it gave.
+#[derive(Drop)]
+pub struct Memory<C> {
+    below: C,
+    entries: ArrayVec<Remembered, 64>,
 }
 
 impl<C> Memory<C> {
@@ -67,11 +25,7 @@ impl<C> Memory<C> {
     {
         Memory {
             below,
-            entries: [Remembered {
-                set: 0,
-                verdict: false,
-            }; 64],
-            len: 0,
+            entries: ArrayVec::new(),
         }
     }
 
@@ -79,34 +33,42 @@ impl<C> Memory<C> {
     pub fn into_inner(self) -> C
         ensures gives_it_back { result ≡ self.below }
     {
-        let Memory {
-            below,
-            entries: _,
-            len: _,
-        } = self;
-        below
+        self.below
     }
 
     // The remembered verdicts, the oldest first.
     pub fn remembered(&self) -> &[Remembered]
         ensures shows_the_row { result.now ≡ row self.now }
+        ensures fits { length result.now ≤ 64 }
     {
-        &self.entries[0..self.len]
+        self.entries.as_slice()
+    }
+
+    // What the remembered verdicts say of a set, a yes before a no.
+    fn recall(&self, set: u32) -> Option<bool>
+        ensures { result ≡ recalled (row self.now) set }
+    {
+        if self.entries.iter().any(|entry| entry.is_yes_for(set)) {
+            return Some(true);
+        }
+        if self.entries.iter().any(|entry| entry.is_no_for(set)) {
+            return Some(false);
+        }
+        None
     }
 }
 
 impl<C: Criterion> Memory<C> {
     // Remembers a verdict while fewer than 64 are held.
+    #[tactic(auto, using(std::proofs::lemmas::Nat::and_mask))]
     fn learn(&mut self, set: u32, verdict: bool)
         ensures below { self.new.below ≡ self.old.below }
         ensures row { row self.new ≡ grown None (row self.old) (record { set = set % 2 ^ (C.Criterion.meaning self.old.below).count; verdict = verdict }) }
     {
-        if self.len >= 64 {
-            return;
+        if !self.entries.is_full() {
+            let set = set & u32::first(self.below.count());
+            self.entries.push(Remembered { set, verdict });
         }
-        let set = set & u32::first(self.below.count());
-        self.entries[self.len] = Remembered { set, verdict };
-        self.len += 1;
     }
 }
 
@@ -119,10 +81,7 @@ impl<C: Criterion> Criterion for Memory<C> {
 
     ghost lawful = { Prim.search rules };
 
-    fn most() -> u32 {
-        C::most()
-    }
-
+    // passed down by hand: a trait cannot do it for a field that it does not know
     fn count(&self) -> u32 {
         self.below.count()
     }
@@ -133,7 +92,7 @@ impl<C: Criterion> Criterion for Memory<C> {
         ensures recalls { (b : Bool) → recalled (row self.old) set ≡ Some b → (result ≡ b) × (self.new ≡ self.old) }
         ensures learns { row self.new ≡ learned (row self.old) (C.Criterion.meaning self.old.below).count set result }
     {
-        if let Some(known) = recall(&self.entries[0..self.len], set) {
+        if let Some(known) = self.recall(set) {
             return known;
         }
         let verdict = self.below.check(set);
@@ -143,7 +102,7 @@ impl<C: Criterion> Criterion for Memory<C> {
 }
 
 impl<C: GroupedCriterion> GroupedCriterion for Memory<C> {
-    fn group(&self, item: u32) -> u32 {
+    fn group(&self, item: u32) -> Group {
         self.below.group(item)
     }
 }

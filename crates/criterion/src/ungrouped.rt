@@ -1,9 +1,10 @@
-// A criterion as one that tells groups: 2 throughout.
+// A criterion as one that tells groups: the third throughout.
 ghost use Rattle.std.specs.Prelude.{◌≡◌};
 ghost use Rattle.criterion.specs.Over.{ungrouped};
 ghost use Rattle.std.proofs.Common.{rules};
 
 use crate::criterion::{Criterion, GroupedCriterion};
+use crate::group::Group;
 
 #[derive(Drop)]
 pub struct Ungrouped<C> {
@@ -21,8 +22,7 @@ impl<C> Ungrouped<C> {
     pub fn into_inner(self) -> C
         ensures gives_it_back { result ≡ self.below }
     {
-        let Ungrouped { below } = self;
-        below
+        self.below
     }
 }
 
@@ -35,10 +35,7 @@ impl<C: Criterion> Criterion for Ungrouped<C> {
 
     ghost lawful = { Prim.search rules };
 
-    fn most() -> u32 {
-        C::most()
-    }
-
+    // passed down by hand: a trait cannot do it for a field that it does not know
     fn count(&self) -> u32 {
         self.below.count()
     }
@@ -49,7 +46,7 @@ impl<C: Criterion> Criterion for Ungrouped<C> {
 }
 
 impl<C: Criterion> GroupedCriterion for Ungrouped<C> {
-    fn group(&self, _item: u32) -> u32 {
-        2
+    fn group(&self, _item: u32) -> Group {
+        Group::Third
     }
 }

@@ -24,12 +24,13 @@ fn list_without<C: Criterion>(
     item: u32,
     places: &mut [u32],
 ) -> Result<u32, Refusal>
-    ensures answer { (C.Criterion.meaning criterion.old).order ≡ true → ListsWithout scope.old.items (C.Criterion.meaning criterion.old) scope.old.set item (length places.old) places.new result }
+    ensures answer { let m = C.Criterion.meaning criterion.old in m.order ≡ true → ListsWithout scope.old.items m scope.old.set item (length places.old) places.new result }
     ensures scope { scope.new ≡ scope.old }
     ensures same { C.Criterion.meaning criterion.new ≡ C.Criterion.meaning criterion.old }
 {
     let whole = *scope;
     let guard = Narrowed { scope, whole };
+    // no `?`: the places become 0 first
     if let Err(refusal) = guard.scope.retire(item) {
         places.fill(0);
         return Err(refusal);
@@ -52,11 +53,7 @@ impl<C: Criterion> Inquiry<C> {
     pub fn close(self) -> C
         ensures gives_it_back { result ≡ self.criterion }
     {
-        let Inquiry {
-            criterion,
-            scope: _,
-        } = self;
-        criterion
+        self.criterion
     }
 
     // Takes an item out of the scope, and answers how many it then has.
@@ -81,7 +78,7 @@ impl<C: Criterion> Inquiry<C> {
 
     // The verdict of the scope.
     pub fn verdict(&mut self) -> bool
-        ensures answers_the_verdict { (C.Criterion.meaning self.old.criterion).order ≡ true → result ≡ (C.Criterion.meaning self.old.criterion).verdict self.old.scope.set }
+        ensures answers_the_verdict { let m = C.Criterion.meaning self.old.criterion in m.order ≡ true → result ≡ m.verdict self.old.scope.set }
         ensures keeps_the_scope { self.new.scope ≡ self.old.scope }
         ensures keeps_the_meaning { C.Criterion.meaning self.new.criterion ≡ C.Criterion.meaning self.old.criterion }
     {
@@ -90,7 +87,7 @@ impl<C: Criterion> Inquiry<C> {
 
     // A core of the scope.
     pub fn core(&mut self) -> Result<u32, Refusal>
-        ensures answers_a_core { (C.Criterion.meaning self.old.criterion).order ≡ true → Chooses (C.Criterion.meaning self.old.criterion) self.old.scope.set (Core (C.Criterion.meaning self.old.criterion).verdict self.old.scope.set) result }
+        ensures answers_a_core { let m = C.Criterion.meaning self.old.criterion in m.order ≡ true → Chooses m self.old.scope.set (Core m.verdict self.old.scope.set) result }
         ensures keeps_the_scope { self.new.scope ≡ self.old.scope }
         ensures keeps_the_meaning { C.Criterion.meaning self.new.criterion ≡ C.Criterion.meaning self.old.criterion }
     {
@@ -99,7 +96,7 @@ impl<C: Criterion> Inquiry<C> {
 
     // The items that lie in every core of the scope.
     pub fn common(&mut self) -> Result<u32, Refusal>
-        ensures answers_the_common_items { (C.Criterion.meaning self.old.criterion).order ≡ true → Chooses (C.Criterion.meaning self.old.criterion) self.old.scope.set (InEvery (C.Criterion.meaning self.old.criterion) self.old.scope.set) result }
+        ensures answers_the_common_items { let m = C.Criterion.meaning self.old.criterion in m.order ≡ true → Chooses m self.old.scope.set (InEvery m self.old.scope.set) result }
         ensures keeps_the_scope { self.new.scope ≡ self.old.scope }
         ensures keeps_the_meaning { C.Criterion.meaning self.new.criterion ≡ C.Criterion.meaning self.old.criterion }
     {
@@ -108,7 +105,7 @@ impl<C: Criterion> Inquiry<C> {
 
     // Writes the cores of the scope into the places, in rising order, and answers their count.
     pub fn list(&mut self, places: &mut [u32]) -> Result<u32, Refusal>
-        ensures lists_every_core { (C.Criterion.meaning self.old.criterion).order ≡ true → Lists (C.Criterion.meaning self.old.criterion) self.old.scope.set (length places.old) places.new result }
+        ensures lists_every_core { let m = C.Criterion.meaning self.old.criterion in m.order ≡ true → Lists m self.old.scope.set (length places.old) places.new result }
         ensures keeps_the_scope { self.new.scope ≡ self.old.scope }
         ensures keeps_the_meaning { C.Criterion.meaning self.new.criterion ≡ C.Criterion.meaning self.old.criterion }
     {
@@ -117,7 +114,7 @@ impl<C: Criterion> Inquiry<C> {
 
     // The same for the scope less one item. The scope stands as before.
     pub fn without(&mut self, item: u32, places: &mut [u32]) -> Result<u32, Refusal>
-        ensures lists_every_core_without_it { (C.Criterion.meaning self.old.criterion).order ≡ true → ListsWithout self.old.scope.items (C.Criterion.meaning self.old.criterion) self.old.scope.set item (length places.old) places.new result }
+        ensures lists_every_core_without_it { let m = C.Criterion.meaning self.old.criterion in m.order ≡ true → ListsWithout self.old.scope.items m self.old.scope.set item (length places.old) places.new result }
         ensures keeps_the_scope { self.new.scope ≡ self.old.scope }
         ensures keeps_the_meaning { C.Criterion.meaning self.new.criterion ≡ C.Criterion.meaning self.old.criterion }
     {
@@ -126,9 +123,9 @@ impl<C: Criterion> Inquiry<C> {
 }
 
 impl<C: GroupedCriterion> Inquiry<C> {
-    // A core that is least in its group 0 items, and then in its group 1 items.
+    // A core that is least in its items of the first group, and then in those of the second.
     pub fn core_by_groups(&mut self) -> Result<u32, Refusal>
-        ensures answers_a_core_by_groups { (C.Criterion.meaning self.old.criterion).order ≡ true → Chooses (C.Criterion.meaning self.old.criterion) self.old.scope.set (GroupedCore (C.Criterion.meaning self.old.criterion) self.old.scope.set) result }
+        ensures answers_a_core_by_groups { let m = C.Criterion.meaning self.old.criterion in m.order ≡ true → Chooses m self.old.scope.set (GroupedCore m self.old.scope.set) result }
         ensures keeps_the_scope { self.new.scope ≡ self.old.scope }
         ensures keeps_the_meaning { C.Criterion.meaning self.new.criterion ≡ C.Criterion.meaning self.old.criterion }
     {

@@ -6,10 +6,10 @@ use crate::calls::{Answer, Call};
 use crate::inquiry::Inquiry;
 use criterion::{Criterion, GroupedCriterion};
 
-// Makes one call.
+// Makes one call. (The law over runs is told by the cases of `Call`.)
 fn perform<C: GroupedCriterion>(inquiry: &mut Inquiry<C>, call: Call) -> Answer
     requires { inquiry.old.scope.items ≡ (C.Criterion.meaning inquiry.old.criterion).count }
-    ensures answer { (C.Criterion.meaning inquiry.old.criterion).order ≡ true → Answered (C.Criterion.meaning inquiry.old.criterion) inquiry.old.scope.set call result }
+    ensures answer { let m = C.Criterion.meaning inquiry.old.criterion in m.order ≡ true → Answered m inquiry.old.scope.set call result }
     ensures scope { inquiry.new.scope.set ≡ after inquiry.old.scope.items inquiry.old.scope.set call }
     ensures items { inquiry.new.scope.items ≡ inquiry.old.scope.items }
     ensures same { C.Criterion.meaning inquiry.new.criterion ≡ C.Criterion.meaning inquiry.old.criterion }

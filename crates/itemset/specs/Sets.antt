@@ -1,6 +1,6 @@
 -- Sets of small numbers, as items, bodies or states, each kept as one number: i lies in s where bit i of s is 1.
 -- No width is named, so that each definition and each law serves words of 32 bits and of 64 alike.
-use Rattle.std.specs.Prelude.{◌≡◌, ℕ, zero, suc, ◌-◌, ◌/◌, ◌%◌, ◌^◌, ◌≤◌, Bool, cond, List, filter, ◌==◌, bit_and, bit_or}
+use Rattle.std.specs.Prelude.{◌≡◌, ℕ, zero, suc, ◌-◌, ◌/◌, ◌%◌, ◌^◌, ◌≤◌, Bool, cond, List, filter, Some, None, Option, ◌==◌, bit_and, bit_or}
 use Rattle.std.specs.List.{range_with_len}
 
 infix 50 ◌∈◌ ◌⊆◌
@@ -45,3 +45,8 @@ members n s = filter (λ i. has i s) (range_with_len 0 n)
 pub record Lowest (s i : ℕ) : Type 0 where
   pub member : i ∈ s
   pub least : (j : ℕ) → j ∈ s → i ≤ j
+
+-- the lowest member of s is taken out of it, which leaves t; or there is none
+abbrev pub Takes : ℕ → Option ℕ → ℕ → Type 0
+Takes s None t = s ≡ 0
+Takes s (Some i) t = Lowest s i × (t ≡ less s (2 ^ i))

@@ -3,8 +3,10 @@
 
 ghost use Rattle.itemset.specs.Laws.{AndNot, Below, EveryRight, InAnd, InCollect, InFull, InLess, InLow, InOne, InOr, LowestIs, OnesAre, RisingLe, RisingSame, SameMembers, SomeRight, SubsetLe, TestsRight};
 
+mod items;
 mod word;
 
+pub use items::Items;
 pub use word::WordSet;
 
 // The laws of sets as numbers, at every width.

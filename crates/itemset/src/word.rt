@@ -31,58 +31,13 @@ pub trait WordSet {
         ensures { number result ≡ full (min n width) };
 }
 
-impl WordSet for u32 {
-    ghost width = { 32 };
-
-    ghost number = { λ s. s };
-
-    fn holds(self, item: u32) -> bool {
-        if item >= 32 {
-            return false;
-        }
-        (self >> item) & 1 == 1
-    }
-
-    fn within(self, other: u32) -> bool {
-        self & other == self
-    }
-
-    fn without(self, item: u32) -> u32 {
-        if item >= 32 {
-            return self;
-        }
-        self & !(1 << item)
-    }
-
-    fn lowest(self) -> Option<u32> {
-        if self == 0 {
-            return None;
-        }
-        Some(self.trailing_zeros())
-    }
-
-    fn size(self) -> u32 {
-        self.count_ones()
-    }
-
-    fn first(n: u32) -> u32 {
-        if n >= 32 {
-            return u32::MAX;
-        }
-        (1 << n) - 1
-    }
-}
-
 impl WordSet for u64 {
     ghost width = { 64 };
 
     ghost number = { λ s. s };
 
     fn holds(self, item: u32) -> bool {
-        if item >= 64 {
-            return false;
-        }
-        (self >> item) & 1 == 1
+        item < 64 && (self >> item) & 1 == 1
     }
 
     fn within(self, other: u64) -> bool {
@@ -112,5 +67,37 @@ impl WordSet for u64 {
             return u64::MAX;
         }
         (1 << n) - 1
+    }
+}
+
+// Each method is the one of the wider word: a set is the same number at every width. (One `impl` for every unsigned type cannot
+// be proved: the values of a type parameter have no range in a proof, and `size` needs one.)
+impl WordSet for u32 {
+    ghost width = { 32 };
+
+    ghost number = { λ s. s };
+
+    fn holds(self, item: u32) -> bool {
+        u64::from(self).holds(item)
+    }
+
+    fn within(self, other: u32) -> bool {
+        u64::from(self).within(other.into())
+    }
+
+    fn without(self, item: u32) -> u32 {
+        u64::from(self).without(item) as u32
+    }
+
+    fn lowest(self) -> Option<u32> {
+        u64::from(self).lowest()
+    }
+
+    fn size(self) -> u32 {
+        u64::from(self).size()
+    }
+
+    fn first(n: u32) -> u32 {
+        u64::first(n.min(32)) as u32
     }
 }

@@ -3,3 +3,4 @@ pub mod Trips
 pub mod Plans
 pub mod Closing
 pub mod Stripping
+pub mod Kept

@@ -1,7 +1,12 @@
 -- The plans of the code.
-use Rattle.std.proofs.Common.{◌≡◌, ℕ, suc, ◌+◌, ◌-◌, ◌^◌, ◌<◌, ◌≤◌, true, List, [], ◌∷◌, ◌++◌, map, length, get_or, replicate, sym, ap, ◌∙◌, subst, arith}
-use Rattle.std.proofs.lemmas.List.{get_or-map, length-map, length-append, length-replicate, get_or_append_left, get_or-append_right, get_or-replicate}
+use Rattle.std.proofs.Common.{◌≡◌, ℕ, ◌+◌, ◌-◌, ◌^◌, ◌<◌, ◌≤◌, true, List, [], ◌∷◌, ◌++◌, map, length, get_or, drop, set, replicate, sym, refl, ap, ◌∙◌, subst, append_assoc, arith}
+use lib.Seq.{paste}
+use borrow.Rule.Slice.PartMut.{put_mid}
+use Rattle.std.proofs.lemmas.List.{get_or-map, length-map, length-append, length-replicate, length-set}
+use Rattle.std.proofs.lemmas.List.Edits.{length-paste}
+use Rattle.std.proofs.lemmas.Slice.{put_mid-paste}
 use Rattle.base.proofs.Tests.{all_at, all_push}
+use Rattle.base.proofs.Writing.{front_paste, front_set}
 use Rattle.joints.specs.Plans.{Joint, Plan, links, sheet, sound, word}
 use Rattle.joints.specs.Admission.{joint}
 use Rattle.joints.specs.Lawful.{links_parts, sound_parts}
@@ -31,7 +36,7 @@ draft_few b ws t =
     let q = sound_parts (record { bodies = b; joints = map joint ws }) t in
     (q.0, subst (λ (n : ℕ). n ≤ 31) (length-map ws joint) q.1)
 
--- ---- the words of the sheet, by index
+-- ---- the sheet, part by part
 
 pub length_sheet : (p : Plan) → length (sheet p) ≡ p.bodies + length p.joints + 2
 length_sheet p =
@@ -40,29 +45,26 @@ length_sheet p =
     let e = length-append (replicate p.bodies 0) (length p.joints ∷ map word p.joints) in
     omega arith
 
-module _ (b n : ℕ) (ws : List ℕ) (at : ℕ) where
-  zeros : length (replicate {A = ℕ} b 0) ≡ b
-  zeros = length-replicate b 0
+-- the words of the bodies leave the buffer as long as it was
+pub bodies_length : (d zs : List ℕ) (b v : ℕ) → length zs ≡ b → b + 2 ≤ length d → length (put_mid 1 (b + 1 - 1) (set d 0 v) zs) ≡ length d
+bodies_length d zs b v n l =
+    let e = length-set d 0 v in
+    ap length (put_mid-paste 1 (b + 1 - 1) (set d 0 v) zs zs b refl (omega arith) (sym n)) ∙ length-paste (set d 0 v) 1 zs b (omega (arith, e, l)) (omega (arith, n)) ∙ e
 
-  later : (at ≡ 0 → ⊥) → at ≡ suc (at - 1)
-  later ne = omega (arith, ne)
-
-  pub at_body : (at ≡ 0 → ⊥) → at ≤ b → 0 ≡ get_or (b ∷ (replicate b 0 ++ (n ∷ ws))) at 0
-  at_body ne le =
-      sym (ap (λ k. get_or (b ∷ (replicate b 0 ++ (n ∷ ws))) k 0) (later ne)
-      ∙ get_or_append_left (replicate b 0) (n ∷ ws) 0 (at - 1) (omega (arith, zeros, ne, le)) ∙ get_or-replicate b (at - 1) 0 0 (omega (arith, ne, le)))
-
-  pub at_count : at ≡ b + 1 → n ≡ get_or (b ∷ (replicate b 0 ++ (n ∷ ws))) at 0
-  at_count e =
-      let q : at ≡ suc b = omega (arith, e) in
-      let z : b - b ≡ 0 = omega arith in
-      sym (ap (λ k. get_or (b ∷ (replicate b 0 ++ (n ∷ ws))) k 0) q
-      ∙ get_or-append_right (replicate b 0) (n ∷ ws) b b 0 zeros (omega arith) ∙ ap (λ k. get_or (n ∷ ws) k 0) z)
-
-  pub at_joint : b + 2 ≤ at → get_or ws (at - b - 2) 0 ≡ get_or (b ∷ (replicate b 0 ++ (n ∷ ws))) at 0
-  at_joint le =
-      sym (ap (λ k. get_or (b ∷ (replicate b 0 ++ (n ∷ ws))) k 0) (later (λ e. omega (arith, e, le)))
-      ∙ get_or-append_right (replicate b 0) (n ∷ ws) b (at - 1) 0 zeros (omega arith) ∙ ap (λ k. get_or (n ∷ ws) k 0) (past le))
-    where
-      past : b + 2 ≤ at → at - 1 - b ≡ suc (at - b - 2)
-      past le = omega arith
+-- the count of bodies, their words, the count of joints and their words, one behind another
+pub sheet_laid : (d zs : List ℕ) (p : Plan) (k : ℕ) → length (sheet p) ≤ length d → zs ≡ replicate p.bodies 0 → k ≡ length p.joints
+    → paste (set (put_mid 1 (p.bodies + 1 - 1) (set d 0 p.bodies) zs) (p.bodies + 1) (length p.joints)) (p.bodies + 2) (map word p.joints) k ≡ sheet p ++ drop (length (sheet p)) d
+sheet_laid d zs p k fit z all =
+    let b = p.bodies in
+    let n = length p.joints in
+    let ws = map word p.joints in
+    let f = length_sheet p in
+    let one = front_set d d [] 0 b refl refl (omega (arith, f, fit)) in
+    let zeros : length zs ≡ b = ap length z ∙ length-replicate b 0 in
+    let mid = put_mid-paste 1 (b + 1 - 1) (set d 0 b) zs zs b refl (omega arith) (sym zeros) in
+    let two = mid ∙ front_paste d (set d 0 b) (b ∷ []) zs 1 b one refl (sym zeros) in
+    let long = bodies_length d zs b b zeros (omega (arith, f, fit)) in
+    let three = front_set d (put_mid 1 (b + 1 - 1) (set d 0 b) zs) (b ∷ zs) (b + 1) n two (omega (arith, zeros)) (omega (arith, long, f, fit)) in
+    let four = front_paste d _ (b ∷ (zs ++ n ∷ [])) ws (b + 2) k three (omega (arith, zeros, length-append zs (n ∷ []))) (all ∙ sym (length-map p.joints word)) in
+    let same : b ∷ ((zs ++ n ∷ []) ++ ws) ≡ sheet p = ap (λ xs. b ∷ xs) (append_assoc zs (n ∷ []) ws ∙ ap (λ xs. xs ++ (n ∷ ws)) z) in
+    four ∙ ap (λ xs. xs ++ drop (length xs) d) same

@@ -54,7 +54,10 @@ impl JointPlan {
         self.joints.clear();
         self.bodies = draft.bodies;
         for word in draft.joints {
-            self.push(Joint::unpacked(*word));
+            let Ok(joint) = Joint::try_from(*word) else {
+                unreachable!();
+            };
+            self.push(joint);
         }
     }
 

@@ -4,37 +4,50 @@ ghost use Rattle.base.specs.Refusals.{index as index_of, number as number_of};
 ghost use Rattle.joints.specs.Admission.{clear, fine, joint as joint_in};
 ghost use Rattle.joints.specs.Held.{joint_of};
 ghost use Rattle.joints.specs.Plans.{links as joins, word as word_of};
+ghost use Rattle.joints.specs.Views.{Unpacks};
 
 use crate::joint::Joint;
 use base::{Refusal, WordRule};
+use criterion::Group;
 
 impl Joint {
-    // The joint that a word below 2^24 stands for.
-    pub(crate) fn unpacked(word: u64) -> Joint
-        requires { word < 2 ^ 24 }
-        ensures { joint_of result ≡ joint_in word }
-    {
-        Joint {
-            first: (word % 256) as u8,
-            second: (word / 256 % 256) as u8,
-            class: (word / 65536) as u8,
-        }
-    }
-
-    pub(crate) fn packed(&self) -> u64
-        ensures { result ≡ word_of (joint_of self.now) }
-    {
-        self.first as u64 + 256 * self.second as u64 + 65536 * self.class as u64
-    }
-
-    // Two different bodies of so many, and a class 0, 1 or 2.
+    // Two different bodies of so many.
     fn links(&self, bodies: u32) -> bool
         ensures { result ≡ joins bodies (joint_of self.now) }
     {
-        (self.first as u32) < bodies
-            && (self.second as u32) < bodies
+        u32::from(self.first) < bodies
+            && u32::from(self.second) < bodies
             && self.first != self.second
-            && self.class <= 2
+    }
+}
+
+// The joint of a word: three bytes, of which the last is a class. Any other word comes back.
+impl TryFrom<u64> for Joint {
+    type Error = u64;
+
+    ghost try_from_gives = { Unpacks };
+
+    fn try_from(word: u64) -> Result<Joint, u64> {
+        let [first, second, class, 0, 0, 0, 0, 0] = word.to_le_bytes() else {
+            return Err(word);
+        };
+        let Ok(class) = Group::try_from(class) else {
+            return Err(word);
+        };
+        Ok(Joint {
+            first,
+            second,
+            class,
+        })
+    }
+}
+
+// The word of a joint.
+impl From<Joint> for u64 {
+    ghost from_gives = { λ joint word. word ≡ word_of (joint_of joint) };
+
+    fn from(joint: Joint) -> u64 {
+        u64::from_le_bytes([joint.first, joint.second, joint.class.into(), 0, 0, 0, 0, 0])
     }
 }
 
@@ -68,10 +81,7 @@ impl WordRule for LinkWord {
     ghost code = { 7 };
 
     fn passes(&self, word: u64) -> bool {
-        if word >= 1 << 24 {
-            return false;
-        }
-        Joint::unpacked(word).links(self.bodies)
+        Joint::try_from(word).is_ok_and(|joint| joint.links(self.bodies))
     }
 
     fn refusal(index: usize) -> Refusal {

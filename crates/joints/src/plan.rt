@@ -1,4 +1,5 @@
-// A joint plan: how many bodies there are, and the joints between them.
+// A joint plan: how many bodies there are, and the joints between them. Its facts are ghost fields and not a model, which would
+// hide them from the law of criteria.
 ghost use Rattle.std.specs.Prelude.{◌≡◌, ◌≤◌, true, vec_capacity};
 ghost use Rattle.joints.specs.Held.{held};
 ghost use Rattle.joints.specs.Plans.{sound};

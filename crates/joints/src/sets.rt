@@ -2,12 +2,13 @@
 ghost use Rattle.std.specs.Prelude.{◌≡◌, ℕ, ◌<◌, ◌≤◌, true, ◌↔◌, length};
 ghost use Rattle.itemset.specs.Sets.{◌∈◌};
 ghost use Rattle.joints.specs.Closed.{HasClosedPart, Stays, joint_sets, touches, touching};
-ghost use Rattle.joints.specs.Plans.{joint_at};
+ghost use Rattle.joints.specs.Held.{joint_of};
 ghost use Rattle.joints.specs.Views.{plan_of};
 ghost use Rattle.joints.specs.Lawful.{sets_lawful};
 
+use crate::joint::Joint;
 use crate::plan::JointPlan;
-use criterion::{Criterion, GroupedCriterion};
+use criterion::{Criterion, Group, GroupedCriterion};
 use itemset::WordSet;
 
 // The joints of a plan are the items.
@@ -16,25 +17,26 @@ pub struct JointSets {
     plan: JointPlan,
 }
 
-impl JointPlan {
-    // The two bodies of joint k.
-    fn ends(&self, k: usize) -> u32
-        requires { k < length (plan_of self.now).joints }
-        ensures { (b : ℕ) → b ∈ result ↔ (touches (joint_at (plan_of self.now) k) b ≡ true) }
+impl Joint {
+    // Its two bodies.
+    fn ends(&self) -> u32
+        requires { (self.now.first < 32) × (self.now.second < 32) }
+        ensures { (b : ℕ) → b ∈ result ↔ (touches (joint_of self.now) b ≡ true) }
     {
-        let joint = self.joint(k);
-        (1 << joint.first) | (1 << joint.second)
+        (1 << self.first) | (1 << self.second)
     }
+}
 
+impl JointPlan {
     // The bodies that exactly one joint of the set touches.
     fn loose_bodies(&self, set: u32) -> u32
         ensures { (b : ℕ) → b ∈ result ↔ (touching (plan_of self.now) set b ≡ 1) }
     {
         let mut once = 0;
         let mut more = 0;
-        for k in 0..self.joint_count() {
+        for (k, joint) in self.joints.iter().enumerate() {
             if set.holds(k as u32) {
-                let ends = self.ends(k);
+                let ends = joint.ends();
                 more |= once & ends;
                 once |= ends;
             }
@@ -48,11 +50,8 @@ impl JointPlan {
     {
         let loose = self.loose_bodies(set);
         let mut rest = 0;
-        for k in 0..self.joint_count() {
-            if !set.holds(k as u32) {
-                continue;
-            }
-            if self.ends(k) & loose == 0 {
+        for (k, joint) in self.joints.iter().enumerate() {
+            if set.holds(k as u32) && joint.ends() & loose == 0 {
                 rest |= 1 << k;
             }
         }
@@ -71,8 +70,7 @@ impl JointSets {
     pub fn into_plan(self) -> JointPlan
         ensures gives_it_back { result ≡ self.plan }
     {
-        let JointSets { plan } = self;
-        plan
+        self.plan
     }
 }
 
@@ -85,18 +83,7 @@ impl Criterion for JointSets {
 
     ghost lawful = { λ c. sets_lawful (plan_of c.plan) c.plan.ok };
 
-    fn most() -> u32
-        ensures is_the_limit { result ≡ 31 }
-        ensures is_the_constant { result ≡ ⟦<JointSets as Criterion>⟧.LIMIT }
-    {
-        Self::LIMIT
-    }
-
-    fn count(&self) -> u32
-        ensures counts_the_items { result ≡ (joint_sets (plan_of self.now.plan)).count }
-        ensures within_the_limit { (result ≤ 31) × (31 ≤ 31) }
-        ensures within_the_constant { (result ≤ ⟦<JointSets as Criterion>⟧.LIMIT) × (⟦<JointSets as Criterion>⟧.LIMIT ≤ 31) }
-    {
+    fn count(&self) -> u32 {
         self.plan.joint_count() as u32
     }
 
@@ -106,6 +93,7 @@ impl Criterion for JointSets {
         ensures yes_exactly_with_a_closed_part { (result ≡ true) ↔ HasClosedPart (plan_of self.old.plan) set }
     {
         let mut rest = set;
+        // until nothing changes: there is no list to go over
         loop {
             let next = self.plan.strip(rest);
             if next == rest {
@@ -117,10 +105,8 @@ impl Criterion for JointSets {
 }
 
 impl GroupedCriterion for JointSets {
-    fn group(&self, item: u32) -> u32 {
-        if item as usize >= self.plan.joint_count() {
-            return 2;
-        }
-        self.plan.joint(item as usize).class as u32
+    fn group(&self, item: u32) -> Group {
+        let joint = self.plan.joints.get(item as usize);
+        joint.map_or(Group::Third, |joint| joint.class)
     }
 }

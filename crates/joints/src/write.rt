@@ -33,38 +33,11 @@ impl JointPlan {
         self.joints.len()
     }
 
-    // Joint k.
-    pub(crate) fn joint(&self, k: usize) -> Joint
-        requires { k < length (plan_of self.now).joints }
-        ensures value { joint_of result ≡ joint_at (plan_of self.now) k }
-        ensures bodies { (result.first < 32) × (result.second < 32) }
-    {
-        self.joints[k]
-    }
-
     // How many words its sheet has.
     pub fn words(&self) -> usize
         ensures counts_the_words { result ≡ length (sheet (plan_of self.now)) }
     {
         self.bodies as usize + self.joint_count() + 2
-    }
-
-    // The word of its sheet at an index.
-    fn word(&self, at: usize) -> u64
-        requires { at < length (sheet (plan_of self.now)) }
-        ensures { result ≡ slice_index (sheet (plan_of self.now)) at }
-    {
-        let bodies = self.bodies as usize;
-        if at == 0 {
-            return self.bodies as u64;
-        }
-        if at <= bodies {
-            return 0;
-        }
-        if at == bodies + 1 {
-            return self.joint_count() as u64;
-        }
-        self.joint(at - bodies - 2).packed()
     }
 
     // Writes its sheet in front and answers how many words it has.
@@ -77,8 +50,13 @@ impl JointPlan {
         if places.len() < len {
             return Err(Refusal::TooFewPlaces);
         }
-        for at in 0..len {
-            places[at] = self.word(at);
+        let bodies = self.bodies as usize;
+        places[0] = u64::from(self.bodies);
+        places[1..=bodies].fill(0);
+        places[bodies + 1] = self.joints.len() as u64;
+        // not through `iter_mut`: std says nothing of what is written so
+        for (k, joint) in self.joints.iter().enumerate() {
+            places[bodies + 2 + k] = (*joint).into();
         }
         Ok(len)
     }

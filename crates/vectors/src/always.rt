@@ -16,10 +16,6 @@ impl Criterion for Always {
 
     ghost lawful = { Prim.search rules };
 
-    fn most() -> u32 {
-        31
-    }
-
     fn count(&self) -> u32 {
         31
     }

@@ -2,7 +2,7 @@
 ghost use Rattle.std.specs.Prelude.{◌≡◌, ◌+◌, ◌^◌, ◌<◌, ◌≤◌, true};
 ghost use Rattle.std.proofs.Common.{rules};
 
-use criterion::{Criterion, GroupedCriterion};
+use criterion::{Criterion, Group, GroupedCriterion};
 
 #[derive(Drop)]
 pub struct Counting<C> {
@@ -34,10 +34,7 @@ impl<C: Criterion> Criterion for Counting<C> {
 
     ghost lawful = { Prim.search rules };
 
-    fn most() -> u32 {
-        C::most()
-    }
-
+    // passed down by hand: a trait cannot do it for a field that it does not know
     fn count(&self) -> u32 {
         self.below.count()
     }
@@ -53,7 +50,7 @@ impl<C: Criterion> Criterion for Counting<C> {
 }
 
 impl<C: GroupedCriterion> GroupedCriterion for Counting<C> {
-    fn group(&self, item: u32) -> u32 {
+    fn group(&self, item: u32) -> Group {
         self.below.group(item)
     }
 }

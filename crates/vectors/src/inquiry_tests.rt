@@ -1,16 +1,9 @@
 // Inquiries: single calls, runs of calls, and how many checks a list asks.
-use crate::Counting;
+use crate::scenes::{begun, counted};
 use base::Refusal;
 use inquiry::{Call, Inquiry, replay};
-use joints::{JointPlan, JointSets};
 use std::alloc::Global;
 use std::test::Fail;
-
-fn counted(heap: Global, words: &[u64]) -> Result<Counting<JointSets>, Fail> {
-    let mut plan = JointPlan::new(heap)?;
-    plan.admit(words)?;
-    Ok(Counting::new(JointSets::new(plan)))
-}
 
 #[test]
 fn triangle(rt: HostRuntime) -> Result<(), Fail> {
@@ -57,22 +50,14 @@ fn no_room(rt: HostRuntime) -> Result<(), Fail> {
 fn asked(heap: Global, words: &[u64]) -> Result<(u32, u64), Fail> {
     let mut places = vec![in heap; 0; 4096]?;
     let mut inquiry = Inquiry::open(counted(heap, words)?);
-    let count = match inquiry.list(&mut places) {
-        Ok(count) => count,
-        Err(_) => 0,
-    };
+    let count = inquiry.list(&mut places).unwrap_or(0);
     Ok((count, inquiry.close().checks()))
 }
 
 #[test]
 fn checks_of_a_grid(rt: HostRuntime) -> Result<(), Fail> {
     let heap = rt.alloc();
-    let mut words = Vec::new(heap);
-    words.push(16u64)?;
-    for _ in 0..16 {
-        words.push(0)?;
-    }
-    words.push(24)?;
+    let mut words = begun(heap, 16, 24)?;
     for body in 0..16u64 {
         if body % 4 < 3 {
             words.push(body + 256 * (body + 1))?;
@@ -90,12 +75,7 @@ fn checks_of_a_grid(rt: HostRuntime) -> Result<(), Fail> {
 #[test]
 fn checks_of_a_complete_graph(rt: HostRuntime) -> Result<(), Fail> {
     let heap = rt.alloc();
-    let mut words = Vec::new(heap);
-    words.push(7u64)?;
-    for _ in 0..7 {
-        words.push(0)?;
-    }
-    words.push(21)?;
+    let mut words = begun(heap, 7, 21)?;
     for first in 0..7u64 {
         for second in first + 1..7 {
             words.push(first + 256 * second)?;
@@ -110,12 +90,7 @@ fn checks_of_a_complete_graph(rt: HostRuntime) -> Result<(), Fail> {
 #[test]
 fn checks_of_a_chain(rt: HostRuntime) -> Result<(), Fail> {
     let heap = rt.alloc();
-    let mut words = Vec::new(heap);
-    words.push(32u64)?;
-    for _ in 0..32 {
-        words.push(0)?;
-    }
-    words.push(31)?;
+    let mut words = begun(heap, 32, 31)?;
     for k in 0..31u64 {
         words.push(k + 256 * (k + 1))?;
     }

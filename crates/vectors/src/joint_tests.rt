@@ -1,17 +1,12 @@
 // Joint sheets and joint sets.
+use crate::scenes::{admitted, begun};
 use base::Refusal;
-use criterion::{Criterion, GroupedCriterion};
-use joints::{JointPlan, JointSets};
+use criterion::{Criterion, Group, GroupedCriterion};
+use joints::{Joint, JointPlan, JointSets};
 use std::alloc::Global;
 use std::test::Fail;
 
 const TRIANGLE: [u64; 9] = [3, 0, 0, 0, 4, 256, 513, 2, 256];
-
-fn admitted(heap: Global, words: &[u64]) -> Result<JointSets, Fail> {
-    let mut plan = JointPlan::new(heap)?;
-    plan.admit(words)?;
-    Ok(JointSets::new(plan))
-}
 
 #[test]
 fn triangle(rt: HostRuntime) -> Result<(), Fail> {
@@ -48,7 +43,7 @@ fn groups(rt: HostRuntime) -> Result<(), Fail> {
         (32, 2),
         (u32::MAX, 2),
     ] {
-        assert_eq!(rt; sets.group(item), group);
+        assert_eq!(rt; u8::from(sets.group(item)), group);
     }
     Ok(())
 }
@@ -59,12 +54,7 @@ fn small_and_large(rt: HostRuntime) -> Result<(), Fail> {
     let mut none = JointSets::new(JointPlan::new(heap)?);
     assert_eq!(rt; none.count(), 0);
     assert!(rt; !none.check(u32::MAX));
-    let mut words = Vec::new(heap);
-    words.push(31u64)?;
-    for _ in 0..31 {
-        words.push(0)?;
-    }
-    words.push(31)?;
+    let mut words = begun(heap, 31, 31)?;
     for k in 0..31u64 {
         words.push(k + 256 * ((k + 1) % 31))?;
     }
@@ -133,4 +123,36 @@ fn writing(rt: HostRuntime) -> Result<(), Fail> {
     assert_eq!(rt; plan.write(&mut places), Ok(9));
     assert!(rt; places == [3, 0, 0, 0, 4, 256, 513, 2, 256, 7, 7, 7]);
     Ok(())
+}
+
+#[test]
+fn words_of_joints(rt: HostRuntime) {
+    for (word, first, second, class) in [
+        (0u64, 0u8, 0u8, Group::First),
+        (0x00_0100, 0, 1, Group::First),
+        (0x01_1f03, 3, 31, Group::Second),
+        (0x02_ffff, 255, 255, Group::Third),
+    ] {
+        let joint = Joint {
+            first,
+            second,
+            class,
+        };
+        assert_eq!(rt; Joint::try_from(word), Ok(joint));
+        assert_eq!(rt; u64::from(joint), word);
+    }
+    for word in [0x03_0100, 0x0100_0100, u64::MAX] {
+        assert_eq!(rt; Joint::try_from(word), Err(word));
+    }
+}
+
+#[test]
+fn numbers_of_groups(rt: HostRuntime) {
+    for (number, group) in [(0u8, Group::First), (1, Group::Second), (2, Group::Third)] {
+        assert_eq!(rt; Group::try_from(number), Ok(group));
+        assert_eq!(rt; u8::from(group), number);
+    }
+    for number in [3, 255] {
+        assert_eq!(rt; Group::try_from(number), Err(number));
+    }
 }

@@ -20,4 +20,6 @@ mod model;
 #[cfg(test)]
 mod run_tests;
 #[cfg(test)]
+mod scenes;
+#[cfg(test)]
 mod sets_tests;

@@ -1,23 +1,17 @@
 // Memories and criteria without groups.
-use crate::Counting;
-use criterion::{Criterion, GroupedCriterion, Memory, Ungrouped};
-use joints::{JointPlan, JointSets};
+use crate::scenes::{begun, counted};
+use criterion::{Criterion, GroupedCriterion, Memory, Remembered, Ungrouped};
+use joints::JointSets;
 use std::alloc::Global;
 use std::test::Fail;
-
-fn counted(heap: Global, words: &[u64]) -> Result<Counting<JointSets>, Fail> {
-    let mut plan = JointPlan::new(heap)?;
-    plan.admit(words)?;
-    Ok(Counting::new(JointSets::new(plan)))
-}
 
 #[test]
 fn three_piled(rt: HostRuntime) -> Result<(), Fail> {
     let below = counted(rt.alloc(), &[3, 0, 0, 0, 4, 256, 66049, 2, 256])?;
     let mut pile = Memory::new(Memory::new(Memory::new(below)));
     assert_eq!(rt; pile.count(), 4);
-    assert_eq!(rt; pile.group(1), 1);
-    assert_eq!(rt; pile.group(4), 2);
+    assert_eq!(rt; u8::from(pile.group(1)), 1);
+    assert_eq!(rt; u8::from(pile.group(4)), 2);
     assert_eq!(rt; Memory::<Memory<JointSets>>::LIMIT, 31);
     assert_eq!(rt; Ungrouped::<JointSets>::LIMIT, 31);
     for (set, verdict, asked) in [
@@ -37,10 +31,16 @@ fn three_piled(rt: HostRuntime) -> Result<(), Fail> {
         assert_eq!(rt; pile.remembered().len(), asked);
     }
     assert!(rt; pile.remembered().len() == 7);
-    assert_eq!(rt; pile.remembered()[0].set, 7);
-    assert!(rt; pile.remembered()[0].verdict);
-    assert_eq!(rt; pile.remembered()[1].set, 3);
-    assert!(rt; !pile.remembered()[1].verdict);
+    let first = Remembered {
+        set: 7,
+        verdict: true,
+    };
+    assert_eq!(rt; pile.remembered()[0], first);
+    let second = Remembered {
+        set: 3,
+        verdict: false,
+    };
+    assert_eq!(rt; pile.remembered()[1], second);
     assert_eq!(rt; pile.into_inner().into_inner().into_inner().checks(), 7);
     Ok(())
 }
@@ -48,12 +48,7 @@ fn three_piled(rt: HostRuntime) -> Result<(), Fail> {
 #[test]
 fn full_memory(rt: HostRuntime) -> Result<(), Fail> {
     let heap = rt.alloc();
-    let mut words = Vec::new(heap);
-    words.push(32u64)?;
-    for _ in 0..32 {
-        words.push(0)?;
-    }
-    words.push(31)?;
+    let mut words = begun(heap, 32, 31)?;
     for k in 0..31u64 {
         words.push(k + 256 * (k + 1))?;
     }
@@ -74,13 +69,13 @@ fn full_memory(rt: HostRuntime) -> Result<(), Fail> {
 fn no_groups(rt: HostRuntime) -> Result<(), Fail> {
     let mut sets = Ungrouped::new(counted(rt.alloc(), &[2, 0, 0, 2, 256, 65792])?);
     for item in [0, 1, 2, u32::MAX] {
-        assert_eq!(rt; sets.group(item), 2);
+        assert_eq!(rt; u8::from(sets.group(item)), 2);
     }
     assert_eq!(rt; sets.count(), 2);
     assert!(rt; sets.check(3));
     assert!(rt; !sets.check(2));
     let below = sets.into_inner();
-    assert_eq!(rt; below.group(1), 1);
+    assert_eq!(rt; u8::from(below.group(1)), 1);
     assert_eq!(rt; below.checks(), 2);
     Ok(())
 }

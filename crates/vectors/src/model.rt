@@ -1,9 +1,12 @@
 // What the calls of an inquiry have to answer on a small scene, found by trying every set.
+ghost use Rattle.std.specs.Prelude.{◌≤◌};
+
 use base::Refusal;
-use criterion::{Criterion, GroupedCriterion};
+use criterion::{Criterion, Group, GroupedCriterion};
 use inquiry::{Answer, Call};
 use joints::JointSets;
 use std::alloc::{AllocError, Global};
+use std::iter;
 
 // Numbers that look random: each is made from the one before.
 pub fn next(seed: u64) -> u64 {
@@ -16,6 +19,7 @@ pub fn next(seed: u64) -> u64 {
 pub fn call(heap: Global, number: u64) -> Result<Call, AllocError> {
     let item = [0, 1, 2, 3, 4, 5, 31, 32, u32::MAX, 0][(number / 8 % 10) as usize];
     let len = [0, 1, 2, 3, 4, 5, 6, 20][(number / 128 % 8) as usize];
+    // a call, not a kind: the number is random
     match number % 8 {
         0 => Ok(Call::Retire(item)),
         1 => Ok(Call::Restore(item)),
@@ -32,8 +36,10 @@ pub fn call(heap: Global, number: u64) -> Result<Call, AllocError> {
 #[derive(Drop)]
 pub struct Model {
     items: u32,
+    // full from the start, a place for every set
     yes: [bool; 64],
-    groups: [u32; 3],
+    first: u32,
+    second: u32,
     scope: u32,
 }
 
@@ -41,20 +47,17 @@ impl Model {
     pub fn of(sets: &mut JointSets) -> Model {
         let items = sets.count();
         let mut yes = [false; 64];
-        let mut groups = [0; 3];
+        // a `for`: the check changes the criterion, and in a closure a set has no bound
         for set in 0..64u32 {
             yes[set as usize] = sets.check(set);
         }
-        for item in 0..6u32 {
-            let group = sets.group(item) as usize;
-            if group < 3 {
-                groups[group] |= 1 << item;
-            }
-        }
+        let first = in_group(sets, Group::First);
+        let second = in_group(sets, Group::Second);
         Model {
             items,
             yes,
-            groups,
+            first,
+            second,
             scope: (1 << (items % 32)) - 1,
         }
     }
@@ -64,68 +67,44 @@ impl Model {
     }
 
     fn is_core(&self, scope: u32, set: u32) -> bool {
-        if set & scope != set || !self.gets_yes(set) {
-            return false;
-        }
-        for part in 0..set {
-            if part & set == part && self.gets_yes(part) {
-                return false;
-            }
-        }
-        true
+        set & scope == set
+            && self.gets_yes(set)
+            && !(0..set).any(|part| part & set == part && self.gets_yes(part))
     }
 
-    // No core has its group 0 items properly inside the set's, nor, with the same ones, its group 1 items.
+    // No core has its items of the first group properly inside the set's, nor, with the same ones, those of the second.
     fn is_least_by_groups(&self, set: u32) -> bool {
-        let first = set & self.groups[0];
-        let second = set & self.groups[1];
-        for other in 0..64 {
-            if self.is_core(self.scope, other) {
-                let others = other & self.groups[0];
-                if others & first == others && others != first {
-                    return false;
-                }
-                let seconds = other & self.groups[1];
-                if others == first && seconds & second == seconds && seconds != second {
-                    return false;
-                }
-            }
-        }
-        true
+        let first = set & self.first;
+        let second = set & self.second;
+        let is_less = |other: u32| {
+            let others = other & self.first;
+            let seconds = other & self.second;
+            let fewer = others & first == others && others != first;
+            fewer || others == first && seconds & second == seconds && seconds != second
+        };
+        !(0..64).any(|other| self.is_core(self.scope, other) && is_less(other))
     }
 
     fn common(&self) -> u32 {
-        let mut common = self.scope;
-        for set in 0..64 {
-            if self.is_core(self.scope, set) {
-                common &= set;
-            }
-        }
-        common
+        (0..64)
+            .filter(|set| self.is_core(self.scope, *set))
+            .fold(self.scope, |common, set| common & set)
     }
 
-    fn core_count(&self, scope: u32) -> u32 {
-        let mut count = 0u32;
-        for set in 0..64 {
-            if self.is_core(scope, set) {
-                count = count.saturating_add(1);
-            }
-        }
-        count
+    fn core_count(&self, scope: u32) -> usize
+        ensures { result ≤ 64 }
+    {
+        (0..64u32).filter(|set| self.is_core(scope, *set)).count()
     }
 
     // Whether the places hold the scope's cores in rising order, and then zeros.
     fn holds_cores(&self, scope: u32, places: &[u32]) -> bool {
-        let mut rest = places;
-        for set in 0..64 {
-            if self.is_core(scope, set) {
-                match rest {
-                    [first, later @ ..] if *first == set => rest = later,
-                    _ => return false,
-                }
-            }
-        }
-        are_zeros(rest)
+        let cores = (0..64).filter(|set| self.is_core(scope, *set));
+        let wanted = cores.chain(iter::repeat(0));
+        places
+            .iter()
+            .zip(wanted)
+            .all(|(place, core)| *place == core)
     }
 
     // Whether a list of the scope's cores is right.
@@ -134,28 +113,27 @@ impl Model {
         if count == 0 {
             return *res == Err(Refusal::GetsNo) && are_zeros(places);
         }
-        if count as usize > places.len() {
+        if count > places.len() {
             return *res == Err(Refusal::TooManyCores) && are_zeros(places);
         }
-        *res == Ok(count) && self.holds_cores(scope, places)
+        *res == Ok(count as u32) && self.holds_cores(scope, places)
     }
 
-    fn refuses(&self, item: u32, inside: bool) -> Option<Refusal> {
+    // Whether the item can be taken out, where `inside` is true, or put in.
+    fn allows(&self, item: u32, inside: bool) -> Result<(), Refusal> {
         if item >= self.items {
-            return Some(Refusal::NoSuchItem);
+            return Err(Refusal::NoSuchItem);
         }
         match ((self.scope >> (item % 32)) & 1 == 1, inside) {
-            (true, false) => Some(Refusal::AlreadyIn),
-            (false, true) => Some(Refusal::AlreadyOut),
-            _ => None,
+            (true, false) => Err(Refusal::AlreadyIn),
+            (false, true) => Err(Refusal::AlreadyOut),
+            _ => Ok(()),
         }
     }
 
     // Changes the scope as the call does, where it is not refused.
     fn moved(&mut self, item: u32, inside: bool) -> Result<u32, Refusal> {
-        if let Some(refusal) = self.refuses(item, inside) {
-            return Err(refusal);
-        }
+        self.allows(item, inside)?;
         self.scope ^= 1 << (item % 32);
         Ok(self.scope.count_ones())
     }
@@ -176,22 +154,29 @@ impl Model {
             (Call::List(_), Answer::Listed(result, places)) => {
                 self.listed(self.scope, result, places.as_slice())
             }
-            (Call::Without(item, _), Answer::Listed(result, places)) => match self.refuses(
+            (Call::Without(item, _), Answer::Listed(result, places)) => match self.allows(
                 *item, true,
             ) {
-                Some(refusal) => *result == Err(refusal) && are_zeros(places.as_slice()),
-                None => self.listed(self.scope & !(1 << (*item % 32)), result, places.as_slice()),
+                Err(refusal) => *result == Err(refusal) && are_zeros(places.as_slice()),
+                Ok(()) => self.listed(self.scope & !(1 << (*item % 32)), result, places.as_slice()),
             },
             _ => false,
         }
     }
 }
 
-fn are_zeros(places: &[u32]) -> bool {
-    for place in places {
-        if *place != 0 {
-            return false;
+// The first six items that are of a group.
+fn in_group(sets: &JointSets, group: Group) -> u32 {
+    let mut set = 0;
+    // a `for`: in a closure an item has no bound for the shift
+    for item in 0..6u32 {
+        if sets.group(item) == group {
+            set |= 1 << item;
         }
     }
-    true
+    set
+}
+
+fn are_zeros(places: &[u32]) -> bool {
+    places.iter().all(|place| *place == 0)
 }

@@ -1,18 +1,18 @@
 // Runs of calls in many orders, over piles of memories.
 use crate::always::Always;
 use crate::model::{Model, call, next};
+use crate::scenes::{admitted, begun};
 use base::Refusal;
 use criterion::{Criterion, GroupedCriterion, Memory, Ungrouped};
 use inquiry::{Inquiry, replay};
-use joints::{JointPlan, JointSets};
+use joints::JointSets;
 use std::alloc::Global;
 use std::process::Abort;
 use std::test::Fail;
 
 // A scene of four bodies and at most six joints.
 fn scene(heap: Global, seed: u64) -> Result<JointSets, Fail> {
-    let mut words = Vec::new(heap);
-    words.extend_from_slice(&[4u64, 0, 0, 0, 0, seed % 7])?;
+    let mut words = begun(heap, 4, seed % 7)?;
     let mut number = seed;
     for _ in 0..seed % 7 {
         number = next(number);
@@ -20,9 +20,7 @@ fn scene(heap: Global, seed: u64) -> Result<JointSets, Fail> {
         let second = (first + 1 + number / 4 % 3) % 4;
         words.push(first + 256 * second + 65536 * (number / 16 % 3))?;
     }
-    let mut plan = JointPlan::new(heap)?;
-    plan.admit(words.as_slice())?;
-    Ok(JointSets::new(plan))
+    admitted(heap, words.as_slice())
 }
 
 // Makes twenty calls and holds each answer to the model's.

@@ -1,5 +1,5 @@
 // Words as sets.
-use itemset::WordSet;
+use itemset::{Items, WordSet};
 
 #[test]
 fn items(rt: HostRuntime) {
@@ -50,4 +50,16 @@ fn states(rt: HostRuntime) {
     assert!(rt; 0x1_0000_0000u64.within(0x1_0000_0001));
     assert_eq!(rt; u64::first(63), 0x7fff_ffff_ffff_ffff);
     assert_eq!(rt; u64::first(64), u64::MAX);
+}
+
+#[test]
+fn one_after_another(rt: HostRuntime) {
+    let mut items = Items(0x8000_0005u32);
+    for item in [Some(0), Some(2), Some(31), None, None] {
+        assert_eq!(rt; items.next(), item);
+    }
+    let mut states = Items(0x8000_0000_0000_0000u64);
+    for state in [Some(63), None] {
+        assert_eq!(rt; states.next(), state);
+    }
 }

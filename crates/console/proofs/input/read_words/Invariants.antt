@@ -1,10 +1,9 @@
-use Rattle.std.proofs.Common.{◌≡◌, ◌*◌, map, vec_items, vec_len, vec_capacity}
-use Rattle.std.specs.List.{range_with_len}
-use Rattle.console.specs.Response.{big_endian}
+use Rattle.std.proofs.Common.{◌≡◌, map, take, vec_items, vec_len, vec_capacity}
+use Rattle.std.specs.Int.{from_be_bytes, w64}
 use Rattle.console.proofs.input.read_words.Given as goal
 
-abbrev pub invariant-loop-k : goal.invariant-loop-k
-invariant-loop-k l =
-    (vec_items l.words ≡ map (λ k. big_endian l.bytes (8 * k)) (range_with_len 0 l.k))
-    × (vec_len l.words ≡ l.k)
+abbrev pub invariant-loop-chunk : goal.invariant-loop-chunk
+invariant-loop-chunk l =
+    (vec_items l.words ≡ map (from_be_bytes w64) (take l.chunk-index l.chunks))
+    × (vec_len l.words ≡ l.chunk-index)
     × (vec_capacity l.words ≡ vec_capacity l.initial.words)

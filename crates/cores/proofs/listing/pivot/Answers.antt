@@ -1,55 +1,37 @@
-use Rattle.std.proofs.Common.{◌<◌, length, take, All, sym, refl, subst, arith}
-use Rattle.std.proofs.lemmas.List.Elements.{All-contains}
+use Rattle.std.proofs.Common.{All, Contains, sym, subst, pow_mono, arith}
+use Rattle.std.proofs.lemmas.Result.{err_from_is_err_and}
 use Rattle.criterion.specs.Cores.{Core}
 use Rattle.itemset.proofs.Members.{subset_le}
-use Rattle.cores.proofs.Placing.{grown_same, grown_by, has_it, front_is, all_placed}
-use Rattle.cores.proofs.Exploring.{core_narrower, core_wider, is_new, crowded}
+use Rattle.cores.specs.Founds.{known}
+use Rattle.cores.proofs.Placing.{placed_keeps, placed_has, all_placed}
+use Rattle.cores.proofs.Exploring.{core_wider, is_new, crowded}
 use Rattle.cores.proofs.listing.pivot.Goals as goal
 
-pub returns-in-Some : goal.returns-in-Some
-returns-in-Some g c =
+pub insert-requires-clause-below : goal.insert-requires-clause-below
+insert-requires-clause-below g c =
+    let s = c.args.scope in
+    omega (arith, subset_le c.in-Ok.core s.set c.in-Ok.ensures.stays_within_the_scope, s.ok.1, pow_mono s.ok.0)
+
+pub insert-requires-clause-new : goal.insert-requires-clause-new
+insert-requires-clause-new g c = is_new c.args.scope.set c.in-Ok.core (known c.args.found.now) c.in-Ok.ensures.stays_within_the_scope (rw c.known.ensures at c.in_default.ensures)
+
+pub returns-in_err-insert-clause-answer : goal.returns-in_err-insert-clause-answer
+returns-in_err-insert-clause-answer g c =
+    let V = (g.C.Criterion.meaning c.args.criterion.now).verdict in
+    let f = c.args.found.now in
+    let told = c.in_err-insert.ensures.row in
+    let p = err_from_is_err_and c.from_residual.result c.from_residual.ensures.1 in
+    rw (p.1, p.2) (λ o S s all. (told.0, crowded V S c.args.scope.set c.in-Ok.core f (rw c.known.ensures at c.in_default.ensures) (c.in-Ok.ensures.answers_a_core o).1 s all told.1))
+
+pub returns-clause-row : goal.returns-clause-row
+returns-clause-row g c = record { buffer = c.insert.ensures.buffer; keeps = λ K h. subst (λ zs. Contains zs K) (sym c.in_ok-insert.ensures.row) (placed_keeps c.in-Ok.core K _ h) }
+
+pub returns-clause-core : goal.returns-clause-core
+returns-clause-core g c = (c.in-Ok.ensures.stays_within_the_scope, subst (λ zs. Contains zs c.in-Ok.core) (sym c.in_ok-insert.ensures.row) (placed_has c.in-Ok.core (known c.args.found.now)))
+
+pub returns-clause-answer : goal.returns-clause-answer
+returns-clause-answer g c =
     let V = (g.C.Criterion.meaning c.args.criterion.now).verdict in
     let E = c.args.scope.set in
-    let C = c.in-Some.core in
-    let row = take c.args.count c.args.places.now in
-    let told = c.in-Some.ensures in
-    record {
-      row = (grown_same c.args.scope.items c.args.count c.args.places.now c.requires, told.1, told.0);
-      answer = λ o S s all. (core_narrower V S E C told.1 (All-contains (Core V S) row C all told.0), all);
-      same = refl;
-    }
-
-pub returns-then-count-places : goal.returns-then-count-places
-returns-then-count-places g c =
-    let V = (g.C.Criterion.meaning c.args.criterion.now).verdict in
-    let told = c.in-Ok.ensures in
-    record {
-      row = tt;
-      answer = λ o S s all. (refl, crowded V S c.args.scope.set c.args.scope.items c.args.count c.in-Ok.core c.args.places.now c.requires c.in_default.ensures (told.answers_a_core o).1 s all (omega (arith, c.if-count-places.true, c.requires.high)));
-      same = told.keeps_the_meaning;
-    }
-
-pub returns-else-count-places : goal.returns-else-count-places
-returns-else-count-places g c =
-    let V = (g.C.Criterion.meaning c.args.criterion.now).verdict in
-    let n = c.args.scope.items in
-    let E = c.args.scope.set in
-    let xs = c.args.places.now in
-    let ys = c.insert.new.places in
-    let count = c.args.count in
     let C = c.in-Ok.core in
-    let told = c.in-Ok.ensures in
-    let room : count < length xs = omega (arith, c.requires.high, c.if-count-places.false) in
-    let is = c.insert.ensures in
-    record {
-      row = (
-        grown_by n count C xs ys c.requires room is (omega (arith, subset_le C E told.stays_within_the_scope, c.args.scope.ok.1)) (is_new E C (take count xs) told.stays_within_the_scope c.in_default.ensures),
-        told.stays_within_the_scope,
-        has_it n count C xs ys c.requires room is,
-      );
-      answer = λ o S s all. (
-        (told.answers_a_core o).1,
-        subst (All (Core V S)) (sym (front_is n count C xs ys c.requires room is)) (all_placed (Core V S) C (take count xs) (core_wider V S E C s (told.answers_a_core o).1) all),
-      );
-      same = told.keeps_the_meaning;
-    }
+    λ o S s all. let core = (c.in-Ok.ensures.answers_a_core o).1 in (core, subst (All (Core V S)) (sym c.in_ok-insert.ensures.row) (all_placed (Core V S) C (known c.args.found.now) (core_wider V S E C s core) all))

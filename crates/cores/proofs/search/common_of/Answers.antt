@@ -1,54 +1,44 @@
-use Rattle.std.proofs.Common.{◌+◌, sym, refl, ap, ◌∙◌, subst, arith}
+use Rattle.std.proofs.Common.{◌≡◌, ◌^◌, false, sym, ap, subst, ◌∙◌}
+use Rattle.std.proofs.lemmas.Bool.{both_ways}
+use Rattle.itemset.specs.Sets.{less}
 use Rattle.cores.proofs.Judged.{judged}
-use Rattle.cores.proofs.Shrinking.{refused_out}
-use Rattle.cores.proofs.Sifting.{Sifted, sift_out, sift_can_go, sift_needed, sifted_all}
+use Rattle.cores.proofs.Coming.{more_done, coming_less, all_done, item_small}
+use Rattle.cores.proofs.Sifting.{Sifted, sifted_past, sifted_adds, common_are}
 use Rattle.cores.proofs.search.common_of.Goals as goal
-use Rattle.cores.proofs.search.common_of.Goals.{then-is_ok+then-not-check-2, then-is_ok+else-not-check-2, else-is_ok}
+
+pub overflow_shl-common : goal.overflow_shl-common
+overflow_shl-common g c = item_small c.args.scope c.in-Some.item (c.loop-item.invariant.1.inside c.in-Some.item c.in-Some.ensures.steps.0.member)
+
+pub loop-item-preserved-then-not-check-2 : goal.loop-item-preserved-then-not-check-2
+loop-item-preserved-then-not-check-2 g c =
+    let V = (g.C.Criterion.meaning c.args.criterion.now).verdict in
+    let inv = c.loop-item.invariant in
+    let i = c.in-Some.item in
+    let turn = c.in-Some.ensures.steps in
+    let told = c.check-in-loop-item.ensures in (
+      told.keeps_the_meaning ∙ inv.0,
+      coming_less inv.1 turn,
+      λ o. sifted_adds (more_done inv.1 turn) (inv.2 o) (item_small c.args.scope i (inv.1.inside i turn.0.member)) (ap V (sym c.lacking.ensures.set) ∙ judged _ inv.0 told.answers_the_verdict c.if-not-check-2.true o),
+    )
 
 pub loop-item-preserved : goal.loop-item-preserved
 loop-item-preserved g c =
-    let meaning = g.C.Criterion.meaning in
-    let m = meaning c.check.new.self in
-    let at = meaning c.loop-item.criterion in
-    let law = (g.met.C.Criterion.lawful c.check.new.self).monotone in
+    let V = (g.C.Criterion.meaning c.args.criterion.now).verdict in
     let inv = c.loop-item.invariant in
-    let s = c.args.scope in
-    let i = c.loop-item.item in
-    let w₀ = c.loop-item.common in
-    let fewer = c.retire.new.self.set in
-    let told = c.retire.ensures in
-    elim c.if-is_ok.branch [
-      | then-is_ok+then-not-check-2 w ↦ (
-        ap meaning w.criterion-is ∙ w.check-then-is_ok.ensures.keeps_the_meaning ∙ inv.0,
-        λ o t. subst (λ x. Sifted m.verdict s.set x (i + 1)) (sym w.common-is)
-            (sift_needed m.verdict law s.set w₀ i fewer t (inv.1 o t) (omega (arith, c.loop-item-test.true, s.ok.0)) told.takes_it_out (judged m at fewer w.check-then-is_ok.result _ inv.0 w.check-then-is_ok.ensures.answers_the_verdict w.if-not-check-2.true o)),
-      )
-      | then-is_ok+else-not-check-2 w ↦ (
-        ap meaning w.criterion-is ∙ w.check-then-is_ok.ensures.keeps_the_meaning ∙ inv.0,
-        λ o t. subst (λ x. Sifted m.verdict s.set x (i + 1)) (sym w.common-is)
-            (sift_can_go m.verdict law s.set w₀ i fewer t (inv.1 o t) told.takes_it_out (judged m at fewer w.check-then-is_ok.result _ inv.0 w.check-then-is_ok.ensures.answers_the_verdict w.if-not-check-2.false o)),
-      )
-      | else-is_ok w ↦ (
-        ap meaning w.criterion-is ∙ inv.0,
-        λ o t. subst (λ x. Sifted m.verdict s.set x (i + 1)) (sym w.common-is)
-            (sift_out m.verdict law s.set w₀ i fewer t (inv.1 o t) (refused_out s.items s.set i c.retire.result told.answers_the_size c.loop-item-test.true (sym c.is_ok.ensures.value ∙ w.if-is_ok.false))),
-      )
-    ]
+    let turn = c.in-Some.ensures.steps in
+    let told = c.check-in-loop-item.ensures in (
+      told.keeps_the_meaning ∙ inv.0,
+      coming_less inv.1 turn,
+      λ o. sifted_past (more_done inv.1 turn) (inv.2 o) (λ f. both_ways _ (ap V c.lacking.ensures.set ∙ f) (judged _ inv.0 told.answers_the_verdict c.if-not-check-2.false o)),
+    )
 
-pub returns : goal.returns
-returns g c =
-    let meaning = g.C.Criterion.meaning in
-    let m = meaning c.args.criterion.now in
-    let m₁ = meaning c.check.new.self in
-    let inv = c.loop-item.invariant in
-    let s = c.args.scope in
-    let first = c.check.ensures.keeps_the_meaning in
-    record {
-      answers_the_common_items = λ o.
-          let t = judged m m s.set c.check.result _ refl c.check.ensures.answers_the_verdict c.if-not-check.false o in (
-            t,
-            sifted_all m.verdict s.set c.loop-item.common s.items c.loop-item.item t s.ok.1 c.loop-item-test.false
-                (subst (λ x. Sifted x.verdict s.set c.loop-item.common c.loop-item.item) first (inv.1 (ap (λ x. x.order) first ∙ o) (ap (λ x. x.verdict s.set) first ∙ t))),
-          );
-      keeps_the_meaning = inv.0 ∙ first;
-    }
+pub returns-clause-answers_the_common_items : goal.returns-clause-answers_the_common_items
+returns-clause-answers_the_common_items g c =
+    let V = (g.C.Criterion.meaning c.args.criterion.now).verdict in
+    let E = c.args.scope.set in
+    λ o.
+    let t = sym (c.check.ensures.answers_the_verdict o) ∙ c.if-not-check.false in (
+      t,
+      common_are V (g.met.C.Criterion.lawful c.args.criterion.now).monotone E c.loop-item.common t
+          (subst (λ d. Sifted (λ j. V (less E (2 ^ j)) ≡ false) d c.loop-item.common) (all_done E c.loop-item.item-iterator.0 c.in-None.ensures.steps) (c.loop-item.invariant.2 o)),
+    )

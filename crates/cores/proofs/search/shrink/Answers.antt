@@ -1,53 +1,36 @@
-use Rattle.std.proofs.Common.{◌+◌, sym, ap, ◌∙◌, subst, arith}
-use Rattle.itemset.specs.Sets.{◌⊆◌}
-use Rattle.criterion.specs.Meaning.{Meaning}
-use Rattle.cores.proofs.Shrinking.{Shrinking, turn_goes, turn_stays, refused_out, cut_sub, shrinking_past, shrinking_all}
+use Rattle.std.proofs.Common.{◌^◌, subst, ◌∙◌}
+use Rattle.itemset.specs.Sets.{◌∈◌}
+use Rattle.itemset.proofs.Members.{less_sub}
+use Rattle.cores.specs.Rows.{Pruned}
+use Rattle.cores.proofs.Judged.{judged}
+use Rattle.cores.proofs.Coming.{more_done, coming_less, all_done}
+use Rattle.cores.proofs.Pruning.{pruned_goes, pruned_stays}
 use Rattle.cores.proofs.search.shrink.Goals as goal
-use Rattle.cores.proofs.search.shrink.Goals.{then-is_ok+then-check, then-is_ok+else-check, else-is_ok}
+
+pub loop-item-preserved-then-check : goal.loop-item-preserved-then-check
+loop-item-preserved-then-check g c =
+    let inv = c.loop-item.invariant in
+    let turn = c.in-Some.ensures.steps in
+    let cut = c.lacking-fewer.ensures.set in
+    let told = c.check.ensures in (
+      told.keeps_the_meaning ∙ inv.0,
+      coming_less inv.1 turn,
+      λ o t. pruned_goes cut (more_done inv.1 turn) (inv.2 o t) (g.met.C.Criterion.lawful c.args.criterion.now).monotone (judged _ inv.0 told.answers_the_verdict c.if-check.true o),
+      λ j p. inv.3 j (less_sub c.loop-item.left.set (2 ^ c.in-Some.item) j (subst (λ x. j ∈ x) cut p)),
+    )
 
 pub loop-item-preserved : goal.loop-item-preserved
 loop-item-preserved g c =
-    let meaning = g.C.Criterion.meaning in
-    let m = meaning c.args.criterion.now in
-    let law = (g.met.C.Criterion.lawful c.args.criterion.now).monotone in
     let inv = c.loop-item.invariant in
-    let E = c.args.scope.set in
-    let left = c.loop-item.left in
-    let i = c.loop-item.item in
-    let fewer = c.retire.new.self in
-    let told = c.retire.ensures in
-    elim c.if-is_ok.branch [
-      | then-is_ok+then-check w ↦ (
-        ap meaning w.criterion-is ∙ w.check.ensures.keeps_the_meaning ∙ inv.0,
-        ap (λ x. x.items) w.left-is ∙ told.keeps_the_items ∙ inv.1,
-        λ o t. subst (λ x. Shrinking m.verdict E x.set (i + 1)) (sym w.left-is)
-            (turn_goes m.verdict law E left.set i fewer.set told.takes_it_out (sym (ap (λ (x : Meaning). x.verdict fewer.set) inv.0) ∙ sym (w.check.ensures.answers_the_verdict (ap (λ (x : Meaning). x.order) inv.0 ∙ o)) ∙ w.if-check.true) (inv.2 o t)),
-        subst (λ x. x.set ⊆ E) (sym w.left-is) (λ j p. inv.3 j (cut_sub left.set i fewer.set told.takes_it_out j p)),
-      )
-      | then-is_ok+else-check w ↦ (
-        ap meaning w.criterion-is ∙ w.check.ensures.keeps_the_meaning ∙ inv.0,
-        ap (λ x. x.items) w.left-is ∙ inv.1,
-        λ o t. subst (λ x. Shrinking m.verdict E x.set (i + 1)) (sym w.left-is)
-            (turn_stays m.verdict law E left.set i fewer.set told.takes_it_out (sym (ap (λ (x : Meaning). x.verdict fewer.set) inv.0) ∙ sym (w.check.ensures.answers_the_verdict (ap (λ (x : Meaning). x.order) inv.0 ∙ o)) ∙ w.if-check.false) (inv.2 o t)),
-        subst (λ x. x.set ⊆ E) (sym w.left-is) inv.3,
-      )
-      | else-is_ok w ↦ (
-        ap meaning w.criterion-is ∙ inv.0,
-        ap (λ x. x.items) w.left-is ∙ inv.1,
-        λ o t. subst (λ x. Shrinking m.verdict E x.set (i + 1)) (sym w.left-is)
-            (shrinking_past m.verdict law E left.set i (refused_out left.items left.set i c.retire.result told.answers_the_size (omega (arith, inv.1, c.loop-item-test.true)) (sym c.is_ok.ensures.value ∙ w.if-is_ok.false)) (inv.2 o t)),
-        subst (λ x. x.set ⊆ E) (sym w.left-is) inv.3,
-      )
-    ]
+    let turn = c.in-Some.ensures.steps in
+    let told = c.check.ensures in (
+      told.keeps_the_meaning ∙ inv.0,
+      coming_less inv.1 turn,
+      λ o t. pruned_stays c.lacking-fewer.ensures.set (more_done inv.1 turn) (inv.2 o t) (judged _ inv.0 told.answers_the_verdict c.if-check.false o),
+      inv.3,
+    )
 
-pub returns : goal.returns
-returns g c =
-    let m = g.C.Criterion.meaning c.args.criterion.now in
-    let law = (g.met.C.Criterion.lawful c.args.criterion.now).monotone in
-    let inv = c.loop-item.invariant in
-    let left = c.loop-item.left in
-    record {
-      answer = λ o t. shrinking_all m.verdict law c.args.scope.set left.set left.items c.loop-item.item left.ok.1 (omega (arith, inv.1, c.loop-item-test.false)) (inv.2 o t);
-      inside = inv.3;
-      same = inv.0;
-    }
+pub returns-clause-answer : goal.returns-clause-answer
+returns-clause-answer g c =
+    let V = (g.C.Criterion.meaning c.args.criterion.now).verdict in
+    λ o t. subst (λ d. Pruned V c.args.scope.set d c.loop-item.left.set) (all_done c.args.loose c.loop-item.item-iterator.0 c.in-None.ensures.steps) (c.loop-item.invariant.2 o t)

@@ -1,21 +1,16 @@
-use Rattle.std.proofs.Common.{◌≡◌, ℕ, ◌+◌, ◌-◌, List, get_or, take, drop, sym, refl, ap, ◌∙◌, ap₂, arith}
+use Rattle.std.proofs.Common.{◌≡◌, ℕ, ◌+◌, ◌-◌, List, get_or, take, drop, sym, ap, ◌∙◌, ap₂, arith}
 use Rattle.base.specs.Readers.{text}
-use Rattle.base.specs.Refusals.{number, index}
 use Rattle.base.specs.Sheets.{Read, passing, many, got}
-use Rattle.base.proofs.Reading.{behind, many_none, many_more, many_all, many_stop, told_break, stays_break, passing_step, slice_more}
+use Rattle.base.proofs.Reading.{behind, many_more, many_all, passing_step, slice_more}
 use Rattle.base.proofs.Tells.{words_tell}
-use Rattle.std.proofs.lemmas.Result.{IfOk-from_err}
 use Rattle.base.proofs.reader.Reader.words.Goals as goal
-
-pub loop-done-init : goal.loop-done-init
-loop-done-init g c = (refl, omega arith, many_none _ c.args.n c.args.self.now.at)
 
 pub loop-done-preserved : goal.loop-done-preserved
 loop-done-preserved g c =
     let ws = text c.args.self.now in
     let part : List ℕ → ℕ → Read ℕ = passing (g.R.WordRule.test c.args.rule.now) g.R.WordRule.code in
     let start = c.args.self.now.at in
-    let k = c.loop-done.done in
+    let k = c.loop-done._done in
     let at = c.loop-done.self.at in
     let w = c.in_ok-word.field-0 in
     let e : part ws at ≡ got w c.word.new.self.at = ap (λ us. part us at) (sym c.loop-done.invariant.0) ∙ sym c.in_ok-word.ensures.reads_a_word in
@@ -30,31 +25,15 @@ loop-done-preserved g c =
           ∙ c.loop-done.invariant.2,
     )
 
-pub returns-in_err-word : goal.returns-in_err-word
-returns-in_err-word g c =
-    let ws = text c.args.self.now in
-    let part : List ℕ → ℕ → Read ℕ = passing (g.R.WordRule.test c.args.rule.now) g.R.WordRule.code in
-    let f = c.in_err-word.field-0.0 in
-    record {
-      same_words = c.word.ensures.same_words ∙ c.loop-done.invariant.0;
-      keeps_the_rule = IfOk-from_err c.from_residual.result _ c.from_residual.ensures.0;
-      stays_before_a_refused_word = stays_break c.from_residual.result f c.word.new.self.at c.from_residual.ensures.1 c.in_err-word.ensures.stays_before_a_refused_word;
-      reads_so_many =
-          told_break _ c.from_residual.result f _ c.from_residual.ensures.1
-          ∙ sym (sym c.loop-done.invariant.2
-          ∙ many_stop (part ws) (take c.loop-done.done (drop c.args.self.now.at ws)) c.args.n c.loop-done.done c.loop-done.self.at (number f) (index f) (omega arith)
-          (ap (λ us. part us c.loop-done.self.at) (sym c.loop-done.invariant.0) ∙ sym c.in_err-word.ensures.reads_a_word));
-    }
-
 pub returns : goal.returns
 returns g c =
     let ws = text c.args.self.now in
     let part : List ℕ → ℕ → Read ℕ = passing (g.R.WordRule.test c.args.rule.now) g.R.WordRule.code in
     let i = c.loop-done.invariant.1 in
-    let k : c.loop-done.self.at - c.args.self.now.at ≡ c.loop-done.done = omega arith in
+    let k : c.loop-done.self.at - c.args.self.now.at ≡ c.loop-done._done = omega arith in
     let read : List ℕ = take (c.loop-done.self.at - c.args.self.now.at) (drop c.args.self.now.at (text c.loop-done.self)) in
-    let s : read ≡ take c.loop-done.done (drop c.args.self.now.at ws) = ap₂ (λ (n : ℕ) (us : List ℕ). take n (drop c.args.self.now.at us)) k c.loop-done.invariant.0 in
-    let e = sym c.loop-done.invariant.2 ∙ many_all (part ws) (take c.loop-done.done (drop c.args.self.now.at ws)) c.args.n c.loop-done.done c.loop-done.self.at (omega arith) in
+    let s : read ≡ take c.loop-done._done (drop c.args.self.now.at ws) = ap₂ (λ (n : ℕ) (us : List ℕ). take n (drop c.args.self.now.at us)) k c.loop-done.invariant.0 in
+    let e = sym c.loop-done.invariant.2 ∙ many_all (part ws) (take c.loop-done._done (drop c.args.self.now.at ws)) c.args.n c.loop-done._done c.loop-done.self.at (omega arith) in
     let whole : got read c.loop-done.self.at ≡ many (part ws) c.args.n c.args.self.now.at = ap (λ xs. got xs c.loop-done.self.at) s ∙ sym e in
     let t = words_tell (g.R.WordRule.test c.args.rule.now) g.R.WordRule.code ws c.args.n c.args.self.now.at c.loop-done.self.at read (sym whole) in
     record { same_words = c.loop-done.invariant.0; keeps_the_rule = (t.1, t.2); stays_before_a_refused_word = tt; reads_so_many = whole }

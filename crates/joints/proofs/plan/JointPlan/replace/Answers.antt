@@ -1,16 +1,20 @@
-use Rattle.std.proofs.Common.{◌≡◌, ℕ, List, [], ◌∷◌, ◌++◌, map, length, take, vec_items, sym, ap, ◌∙◌, ap₂, arith}
-use Rattle.std.proofs.lemmas.List.{length-map, length-take-le, map_more, take_all}
+use Rattle.std.proofs.Common.{◌≡◌, map, length, get_or, take, vec_items, ap, ◌∙◌, ap₂, arith}
+use Rattle.std.proofs.lemmas.List.{length-map, length-take-le}
 use Rattle.joints.specs.Admission.{joint}
 use Rattle.joints.specs.Held.{joint_of}
-use Rattle.joints.specs.Plans.{Joint, Plan, links}
+use Rattle.joints.specs.Plans.{Plan, links}
 use Rattle.joints.proofs.Plans.{draft_bits, draft_few, draft_links}
+use Rattle.joints.specs.Lawful.{links_parts}
 use Rattle.joints.proofs.plan.JointPlan.replace.Goals as goal
 
-pub loop-word-init : goal.loop-word-init
-loop-word-init c = ap (λ xs. record { bodies = c.args.draft.now.bodies; joints = map joint_of xs }) c.clear.ensures.items
-
-pub unpacked-requires : goal.unpacked-requires
-unpacked-requires c = draft_bits c.args.draft.now.bodies c.args.draft.now.joints.now c.loop-word.word-index c.requires c.loop-word-test.true
+pub unreachable-requires : goal.unreachable-requires
+unreachable-requires c =
+    let b = c.args.draft.now.bodies in
+    let ws = c.args.draft.now.joints.now in
+    let k = c.loop-word.word-index in
+    let high = c.in_default.ensures.1 (draft_bits b ws k c.requires c.loop-word-test.true) in
+    let low = (links_parts b (joint (get_or ws k 0)) (draft_links b ws k c.requires c.loop-word-test.true)).classed in
+    omega (arith, high, low)
 
 pub push-requires : goal.push-requires
 push-requires c =
@@ -25,18 +29,5 @@ push-requires c =
     let few = (draft_few b ws c.requires).1 in
     record {
       few = omega (arith, n, m, t, same, few, p.joints.ok.0, c.loop-word-test.true);
-      links = ap₂ links (ap (λ (q : Plan). q.bodies) c.loop-word.invariant) c.unpacked.ensures ∙ draft_links b ws k c.requires c.loop-word-test.true;
+      links = ap₂ links (ap (λ (q : Plan). q.bodies) c.loop-word.invariant) c.in-Ok.ensures.1 ∙ draft_links b ws k c.requires c.loop-word-test.true;
     }
-
-pub loop-word-preserved : goal.loop-word-preserved
-loop-word-preserved c =
-    let ws = c.args.draft.now.joints.now in
-    let k = c.loop-word.word-index in
-    c.push.ensures
-    ∙ ap₂ (λ (b : ℕ) (js : List Joint). record { bodies = b; joints = js }) (ap (λ (q : Plan). q.bodies) c.loop-word.invariant)
-    (ap₂ (λ (xs : List Joint) (x : Joint). xs ++ x ∷ []) (ap (λ (q : Plan). q.joints) c.loop-word.invariant) c.unpacked.ensures ∙ sym (map_more joint ws k 0 c.loop-word-test.true))
-
-pub returns : goal.returns
-returns c =
-    let ws = c.args.draft.now.joints.now in
-    c.loop-word.invariant ∙ ap (λ xs. record { bodies = c.args.draft.now.bodies; joints = map joint xs }) (take_all c.loop-word.word-index ws c.loop-word-test.false)

@@ -1,8 +1,8 @@
-use Rattle.std.proofs.Common.{◌≡◌}
+use Rattle.std.proofs.Common.{◌≡◌, ◌+◌, map}
 use lib.Seq.{paste}
-use Rattle.joints.specs.Plans.{sheet}
+use Rattle.joints.specs.Plans.{word}
 use Rattle.joints.specs.Views.{plan_of}
 use Rattle.joints.proofs.plan.JointPlan.write.Given as goal
 
-abbrev pub invariant-loop-at : goal.invariant-loop-at
-invariant-loop-at l = l.places ≡ paste l.initial.places 0 (sheet (plan_of l.self)) l.at
+abbrev pub invariant-loop-k : goal.invariant-loop-k
+invariant-loop-k l = l.places ≡ paste l.initial.places (l.bodies + 2) (map word (plan_of l.self).joints) l.k

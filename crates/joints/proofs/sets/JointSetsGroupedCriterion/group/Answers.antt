@@ -1,16 +1,6 @@
-use Rattle.std.proofs.Common.{◌<◌, ◌≤◌, length, sym, ap, ◌∙◌, arith}
-use Rattle.joints.specs.Views.{plan_of}
-use Rattle.joints.specs.Lawful.{class_at, class_past}
+use Rattle.std.proofs.Common.{rules}
+use Rattle.joints.proofs.Kept.{class_told}
 use Rattle.joints.proofs.sets.JointSetsGroupedCriterion.group.Goals as goal
 
-pub returns-then-item-joint_count : goal.returns-then-item-joint_count
-returns-then-item-joint_count c =
-    let p = plan_of c.args.self.now.plan in
-    let past : length p.joints ≤ c.args.item = omega (arith, c.joint_count.ensures.value, c.if-item-joint_count.true) in
-    record { tells_the_group = sym (class_past p c.args.item past) }
-
 pub returns : goal.returns
-returns c =
-    let p = plan_of c.args.self.now.plan in
-    let at : c.args.item < length p.joints = omega (arith, c.joint_count.ensures.value, c.if-item-joint_count.false) in
-    record { tells_the_group = ap (λ j. j.class) c.joint.ensures.value ∙ sym (class_at p c.args.item at) }
+returns c = record { tells_the_group = class_told c.args.self.now.plan c.deref.result.now c.args.item c.map_or.result c.get-joint.result c.deref.ensures.value c.get-joint.ensures.lookup (search rules) }
