@@ -17,12 +17,43 @@ fn triangle(rt: HostRuntime) -> Result<(), Fail> {
     Ok(())
 }
 
+// Two places are too few for the three cores, three suffice, and what more there is becomes 0.
+#[test]
+fn buffers(rt: HostRuntime) -> Result<(), Fail> {
+    let heap = rt.alloc();
+    let mut inquiry = Inquiry::open(counted(heap, &[3, 0, 0, 0, 4, 256, 513, 2, 256])?);
+    for len in 0..6usize {
+        let mut places = vec![in heap; u32::MAX; len]?;
+        let listed = inquiry.list(&mut places);
+        let wanted = [7, 9, 14, 0, 0, 0];
+        if len < 3 {
+            assert_eq!(rt; listed, Err(Refusal::TooManyCores));
+            assert!(rt; places.iter().all(|place| *place == 0));
+        } else {
+            assert_eq!(rt; listed, Ok(3));
+            assert_eq!(rt; places.as_slice(), &wanted[..len]);
+        }
+    }
+    Ok(())
+}
+
+// Joints 0 and 1, 2 and 3 close a ring each: least in group 0 is the ring of classes 1 and 2.
+#[test]
+fn groups(rt: HostRuntime) -> Result<(), Fail> {
+    let words = [4, 0, 0, 0, 0, 4, 256, 65792, 65792 + 514, 131072 + 770];
+    let mut inquiry = Inquiry::open(counted(rt.alloc(), &words)?);
+    assert_eq!(rt; inquiry.core_by_groups(), Ok(12));
+    Ok(())
+}
+
 #[test]
 fn scope(rt: HostRuntime) -> Result<(), Fail> {
     let mut inquiry = Inquiry::open(counted(rt.alloc(), &[3, 0, 0, 0, 4, 256, 513, 2, 256])?);
     assert_eq!(rt; inquiry.retire(u32::MAX), Err(Refusal::NoSuchItem));
     assert_eq!(rt; inquiry.retire(0), Ok(3));
     assert_eq!(rt; inquiry.retire(0), Err(Refusal::AlreadyOut));
+    assert!(rt; inquiry.verdict());
+    assert_eq!(rt; inquiry.core(), Ok(14));
     assert_eq!(rt; inquiry.common(), Ok(14));
     assert_eq!(rt; inquiry.restore(0), Ok(4));
     assert_eq!(rt; inquiry.restore(0), Err(Refusal::AlreadyIn));
