@@ -46,7 +46,7 @@ pub record Lowest (s i : ℕ) : Type 0 where
   pub member : i ∈ s
   pub least : (j : ℕ) → j ∈ s → i ≤ j
 
--- the lowest member of s is taken out of it, which leaves t; or there is none
+-- the lowest member of s is taken out of it, which leaves t; or there is none, and none comes again
 abbrev pub Takes : ℕ → Option ℕ → ℕ → Type 0
-Takes s None t = s ≡ 0
+Takes s None t = (s ≡ 0) × (t ≡ 0)
 Takes s (Some i) t = Lowest s i × (t ≡ less s (2 ^ i))

@@ -62,4 +62,4 @@ returns-clause-answer g t c =
     let inv = c.loop-item.invariant in
     let core = rw c.in-Some.is at c.in_ok-core.ensures.core in
     let first = rw c.in-Some.is at c.in_ok-core.ensures.answer in
-    explored_all m c.args.scope.set K C items.0 c.loop-item.item-iterator.0 c.args.found.now c.pivot.new.found c.loop-item.found first inv.4 (items_are c.args.scope C K c.into_iter-item-iterator.ensures.into_iter_gives core.0 c.ranges.held.fits) c.in-None.ensures.steps core.1 inv.1
+    explored_all m c.args.scope.set K C items.0 c.loop-item.item-iterator.0 c.args.found.now c.pivot.new.found c.loop-item.found first inv.4 (items_are c.args.scope C K c.into_iter-item-iterator.ensures.into_iter_gives core.0 c.ranges.held.fits) c.in-None.ensures.steps.0 core.1 inv.1

@@ -40,5 +40,5 @@ returns-clause-answers_the_common_items g c =
     let t = sym (c.check.ensures.answers_the_verdict o) ∙ c.if-not-check.false in (
       t,
       common_are V (g.met.C.Criterion.lawful c.args.criterion.now).monotone E c.loop-item.common t
-          (subst (λ d. Sifted (λ j. V (less E (2 ^ j)) ≡ false) d c.loop-item.common) (all_done E c.loop-item.item-iterator.0 c.in-None.ensures.steps) (c.loop-item.invariant.2 o)),
+          (subst (λ d. Sifted (λ j. V (less E (2 ^ j)) ≡ false) d c.loop-item.common) (all_done E c.loop-item.item-iterator.0 c.in-None.ensures.steps.0) (c.loop-item.invariant.2 o)),
     )

@@ -33,4 +33,4 @@ loop-item-preserved g c =
 pub returns-clause-answer : goal.returns-clause-answer
 returns-clause-answer g c =
     let V = (g.C.Criterion.meaning c.args.criterion.now).verdict in
-    λ o t. subst (λ d. Pruned V c.args.scope.set d c.loop-item.left.set) (all_done c.args.loose c.loop-item.item-iterator.0 c.in-None.ensures.steps) (c.loop-item.invariant.2 o t)
+    λ o t. subst (λ d. Pruned V c.args.scope.set d c.loop-item.left.set) (all_done c.args.loose c.loop-item.item-iterator.0 c.in-None.ensures.steps.0) (c.loop-item.invariant.2 o t)
