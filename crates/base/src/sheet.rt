@@ -1,5 +1,5 @@
 // Reads the words of a sheet from the front.
-ghost use Rattle.std.specs.Prelude.{◌≡◌, ℕ, ◌≤◌, Bool, true, length, IfOk, IfErr, nat_le};
+ghost use Rattle.std.specs.Prelude.{◌≡◌, ℕ, Bool, true, length, IfOk, IfErr, nat_le};
 ghost use Rattle.base.specs.Readers.{text, told};
 ghost use Rattle.base.specs.Refusals.{index as index_of, number as number_of, outcome};
 ghost use Rattle.base.specs.Sheets.{all_of, got, many, passing, whole};

@@ -1,5 +1,5 @@
 // A scope that is narrowed for one listing, and put back when the guard goes.
-ghost use Rattle.std.specs.Prelude.{◌≡◌, ◌^◌, ◌<◌};
+ghost use Rattle.std.specs.Prelude.{◌≡◌, ◌<◌};
 
 use cores::Scope;
 

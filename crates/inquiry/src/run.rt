@@ -1,5 +1,5 @@
 // One call after another.
-ghost use Rattle.std.specs.Prelude.{◌≡◌, ◌-◌, ◌<◌, true, length, vec_len, vec_capacity, MatchResult};
+ghost use Rattle.std.specs.Prelude.{◌≡◌, ◌-◌, ◌<◌, true, vec_len, vec_capacity, MatchResult};
 ghost use Rattle.inquiry.specs.Runs.{Answered, Made, after};
 
 use crate::calls::{Answer, Call};

@@ -1,5 +1,5 @@
 // Admitting a joint sheet.
-ghost use Rattle.std.specs.Prelude.{◌≡◌, ◌<◌, true, [], ◌∷◌, ◌++◌, length, IfOk, vec_len, OnOk};
+ghost use Rattle.std.specs.Prelude.{◌≡◌, ◌<◌, true, [], ◌∷◌, ◌++◌, IfOk, vec_len, OnOk};
 ghost use Rattle.base.specs.Outcomes.{standing};
 ghost use Rattle.base.specs.Refusals.{outcome};
 ghost use Rattle.joints.specs.Admission.{admission};

@@ -1,7 +1,6 @@
 // Joints in the words of a sheet.
-ghost use Rattle.std.specs.Prelude.{◌≡◌, ◌^◌, ◌<◌};
-ghost use Rattle.base.specs.Refusals.{index as index_of, number as number_of};
-ghost use Rattle.joints.specs.Admission.{clear, fine, joint as joint_in};
+ghost use Rattle.std.specs.Prelude.{◌≡◌, ◌<◌};
+ghost use Rattle.joints.specs.Admission.{clear, fine};
 ghost use Rattle.joints.specs.Held.{joint_of};
 ghost use Rattle.joints.specs.Plans.{links as joins, word as word_of};
 ghost use Rattle.joints.specs.Views.{Unpacks};

@@ -1,5 +1,5 @@
 // Sets of joints as a criterion: yes for a set that has a closed part.
-ghost use Rattle.std.specs.Prelude.{◌≡◌, ℕ, ◌<◌, ◌≤◌, true, ◌↔◌, length};
+ghost use Rattle.std.specs.Prelude.{◌≡◌, ℕ, ◌<◌, true, ◌↔◌};
 ghost use Rattle.itemset.specs.Sets.{◌∈◌};
 ghost use Rattle.joints.specs.Closed.{HasClosedPart, Stays, joint_sets, touches, touching};
 ghost use Rattle.joints.specs.Held.{joint_of};

@@ -1,11 +1,11 @@
 // A plan's parts and its sheet.
-ghost use Rattle.std.specs.Prelude.{◌≡◌, ◌<◌, ◌≤◌, map, length, slice_index};
+ghost use Rattle.std.specs.Prelude.{◌≡◌, ◌<◌, ◌≤◌, map, length};
 ghost use Rattle.base.specs.Outcomes.{accepted};
 ghost use Rattle.base.specs.Places.{overwritten, written};
 ghost use Rattle.base.specs.Refusals.{outcome};
 ghost use Rattle.joints.specs.Admission.{admission};
 ghost use Rattle.joints.specs.Held.{joint_of};
-ghost use Rattle.joints.specs.Plans.{joint_at, sheet};
+ghost use Rattle.joints.specs.Plans.{sheet};
 ghost use Rattle.joints.specs.Views.{plan_of};
 
 use crate::joint::Joint;

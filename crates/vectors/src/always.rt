@@ -1,5 +1,5 @@
 // A criterion of 31 items that says yes to every set: its only core is the empty set.
-ghost use Rattle.std.specs.Prelude.{◌≡◌, ◌≤◌, true};
+ghost use Rattle.std.specs.Prelude.{true};
 ghost use Rattle.std.proofs.Common.{rules};
 
 use criterion::Criterion;

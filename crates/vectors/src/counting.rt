@@ -1,5 +1,5 @@
 // A criterion that counts how often it is asked.
-ghost use Rattle.std.specs.Prelude.{◌≡◌, ◌+◌, ◌^◌, ◌<◌, ◌≤◌, true};
+ghost use Rattle.std.specs.Prelude.{◌≡◌, ◌+◌, ◌^◌, ◌<◌, true};
 ghost use Rattle.std.proofs.Common.{rules};
 
 use criterion::{Criterion, Group, GroupedCriterion};
