@@ -186,6 +186,3 @@ module _ (p : Plan) (set loose ends k : ℕ) (at : k < length p.joints) (inside 
 
 pub tally_same : (p : Plan) (set k o m o' m' : ℕ) → o' ≡ o → m' ≡ m → Tally p set k o m → Tally p set k o' m'
 tally_same p set k o m o' m' e f t = subst (λ x. Tally p set k x m') (sym e) (subst (Tally p set k o) (sym f) t)
-
-pub ends_of : (j q : Joint) → j ≡ q → j.first < 32 → j.second < 32 → (b : ℕ) → b ∈ bit_or ((1 * 2 ^ j.first) % 2 ^ 32) ((1 * 2 ^ j.second) % 2 ^ 32) ↔ (touches q b ≡ true)
-ends_of j q e low high = subst (λ (x : Joint). (b : ℕ) → b ∈ bit_or ((1 * 2 ^ j.first) % 2 ^ 32) ((1 * 2 ^ j.second) % 2 ^ 32) ↔ (touches x b ≡ true)) e (ends_in j low high)
