@@ -1,6 +1,6 @@
 -- What a memory of the code holds, and what it means.
 use Rattle.std.specs.Prelude.{List}
-use Rattle.criterion.specs.declared.memory.Memory.{Memory}
+use Rattle.criterion.specs.declared.held.Memory.{Memory}
 use Rattle.criterion.specs.declared.remembered.Remembered.{Remembered}
 use Rattle.criterion.specs.Meaning.{Meaning}
 use Rattle.criterion.specs.Over.{recalling}

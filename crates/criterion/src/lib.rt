@@ -6,13 +6,14 @@ ghost use Rattle.criterion.specs.Laws.{Branches, Counted, Found, Hitting, Needed
 
 mod criterion;
 mod group;
+mod held;
 mod memory;
 mod remembered;
 mod ungrouped;
 
 pub use criterion::{Criterion, GroupedCriterion};
 pub use group::Group;
-pub use memory::Memory;
+pub use held::Memory;
 pub use remembered::Remembered;
 pub use ungrouped::Ungrouped;
 

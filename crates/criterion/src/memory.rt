@@ -6,16 +6,10 @@ ghost use Rattle.std.proofs.Common.{rules};
 
 use crate::criterion::{Criterion, GroupedCriterion};
 use crate::group::Group;
+use crate::held::Memory;
 use crate::remembered::Remembered;
 use arrayvec::ArrayVec;
 use itemset::WordSet;
-
-// A criterion with the verdicts that it gave.
-#[derive(Drop)]
-pub struct Memory<C> {
-    below: C,
-    entries: ArrayVec<Remembered, 64>,
-}
 
 impl<C> Memory<C> {
     // A memory that remembers nothing.

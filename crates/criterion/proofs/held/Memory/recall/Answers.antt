@@ -2,7 +2,7 @@ use Rattle.std.proofs.Common.{rules, tests}
 use Rattle.std.proofs.lemmas.Iterator.{YieldsList-from_slice}
 use Rattle.std.proofs.lemmas.Iterator.Search.{any_from_yields_List}
 use Rattle.criterion.specs.Recall.{says_yes, says_no}
-use Rattle.criterion.proofs.memory.Memory.recall.Goals as goal
+use Rattle.criterion.proofs.held.Memory.recall.Goals as goal
 
 pub returns-then-any-2 : goal.returns-then-any-2
 returns-then-any-2 g c =
