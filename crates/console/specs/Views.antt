@@ -3,4 +3,4 @@ use Rattle.std.specs.Prelude.{ℕ, List}
 use Rattle.console.specs.declared.line.Line.{Line}
 
 abbrev pub text_of : Line → List ℕ
-text_of l = l.0.bytes
+text_of l = l.text.bytes

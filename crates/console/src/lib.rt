@@ -3,6 +3,7 @@
 
 ghost use Rattle.console.specs.Examples.{Responses};
 
+mod build;
 mod console;
 mod found;
 mod input;

@@ -51,7 +51,7 @@ impl Line {
         ensures shows_the_bytes { result.now ≡ text_of self.now }
         ensures fits { length result.now ≤ 128 }
     {
-        self.0.as_str().as_bytes()
+        self.text.as_str().as_bytes()
     }
 
     // Writes the line in front and answers how long it is.
