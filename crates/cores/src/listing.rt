@@ -15,10 +15,23 @@ use itemset::{Items, WordSet};
 fn pick(row: &[u32], within: u32, held: u32) -> Option<u32>
     ensures { Fewest row.now within held result }
 {
-    row.iter()
-        .copied()
-        .filter(|set| set.within(within))
-        .min_by_key(|set| (*set & !held).count_ones())
+    let mut best = None;
+    let mut fewest = 33;
+    for set in row {
+        if *set & within != *set {
+            continue;
+        }
+        let spare = (*set & !held).count_ones();
+        // leaves early, since none has fewer, and to go on through a long row would cost most of the time of a list
+        if spare == 0 {
+            return Some(*set);
+        }
+        if spare < fewest {
+            best = Some(*set);
+            fewest = spare;
+        }
+    }
+    best
 }
 
 // A core within the scope: one that is known, or else a new one.
